@@ -1,0 +1,59 @@
+-- Laws of sums and convolutions.
+--     sum-front       a sum taken from its first term
+--     sum-plus        the sum of sums
+--     sum-cong        equal terms, equal sums
+--     sum-most        terms of at most 1 sum to at most their number
+--     conv            the convolution of two sequences, and conv-sum, that it is a sum of products
+-- Assumes nothing.
+use mathlib.Core.Path.{_≡_, refl, sym, ap, _∙_}
+use Prim.Native.Nat.{ℕ, zero, suc, _+_, _-_, _*_, _≤_, _<_, zero-le}
+use native.Mathlib.Nat.{suc-sub-suc, sub-zero, sub-self}
+use native.Mathlib.Omega.{arith}
+use Rattle.catalan.specs.Count.{sum}
+
+pub sum-front : (n : ℕ) (f : ℕ → ℕ) → sum (suc n) f ≡ f 0 + sum n (λ j. f (suc j))
+unfolding sum
+sum-front zero f = omega arith
+sum-front (suc n) f = omega (arith, sum-front n f)
+
+pub sum-plus : (n : ℕ) (f g : ℕ → ℕ) → sum n (λ j. f j + g j) ≡ sum n f + sum n g
+unfolding sum
+sum-plus zero f g = omega arith
+sum-plus (suc n) f g = omega (arith, sum-plus n f g)
+
+pub sum-cong : (n : ℕ) (f g : ℕ → ℕ) → ((j : ℕ) → j < n → f j ≡ g j) → sum n f ≡ sum n g
+unfolding sum
+sum-cong zero f g h = refl
+sum-cong (suc n) f g h = omega (arith, sum-cong n f g (λ j l. h j (omega arith)), h n (omega arith))
+
+pub sum-most : (n : ℕ) (f : ℕ → ℕ) → ((j : ℕ) → f j ≤ 1) → sum n f ≤ n
+unfolding sum
+sum-most zero f h = omega arith
+sum-most (suc n) f h = omega (arith, sum-most n f h, h n)
+
+-- f 0 * g a + f 1 * g (a - 1) + .. + f a * g 0
+unfoldable pub conv : (ℕ → ℕ) → (ℕ → ℕ) → ℕ → ℕ
+conv f g zero = f 0 * g 0
+conv f g (suc a) = f 0 * g (suc a) + conv (λ j. f (suc j)) g a
+
+pub conv-sum : (f g : ℕ → ℕ) (a : ℕ) → conv f g a ≡ sum (suc a) (λ j. f j * g (a - j))
+unfolding conv sum
+conv-sum f g zero = omega arith
+conv-sum f g (suc a) =
+    let rest : sum (suc a) (λ j. f (suc j) * g (a - j)) ≡ sum (suc a) (λ j. f (suc j) * g (suc a - suc j))
+          = sum-cong (suc a) (λ j. f (suc j) * g (a - j)) (λ j. f (suc j) * g (suc a - suc j)) (λ j l. ap (λ (z : ℕ). f (suc j) * g z) (sym (suc-sub-suc a j))) in
+    let whole = sum-front (suc a) (λ j. f j * g (suc a - j)) in
+    let first : f 0 * g (suc a - 0) ≡ f 0 * g (suc a) = ap (λ (z : ℕ). f 0 * g z) (sub-zero (suc a)) in
+    omega (arith, conv-sum (λ j. f (suc j)) g a)
+
+pub conv-plus : (f f′ g : ℕ → ℕ) (a : ℕ) → conv (λ j. f j + f′ j) g a ≡ conv f g a + conv f′ g a
+unfolding conv
+conv-plus f f′ g zero = omega arith
+conv-plus f f′ g (suc a) = omega (arith, conv-plus (λ j. f (suc j)) (λ j. f′ (suc j)) g a)
+
+pub conv-none : (f g : ℕ → ℕ) (a : ℕ) → ((j : ℕ) → f j ≡ 0) → conv f g a ≡ 0
+unfolding conv
+conv-none f g zero h = ap (λ (z : ℕ). z * g 0) (h 0) ∙ omega arith
+conv-none f g (suc a) h =
+    let none : f 0 * g (suc a) ≡ 0 = ap (λ (z : ℕ). z * g (suc a)) (h 0) ∙ omega arith in
+    omega (arith, conv-none (λ j. f (suc j)) g a (λ j. h (suc j)))
