@@ -1,0 +1,74 @@
+-- Which lists are patterns and tree permutations, by their places, and the tree that each of them is of.
+--     count x p                how many entries of p are x
+--     below x p                how many entries of p are less than x
+--     Feasible n p             p is a feasible pattern of size n
+--     TreePermutation n p      p is a tree permutation of size n
+--     patternTree, permutationTree     the tree that is written so; of a list that is not well formed they say nothing
+--     Form                     a form: what is well formed, and the tree there and back; `patterns` and `permutations` are the two
+-- Assumes nothing.
+use mathlib.Core.Path.{_≡_}
+use mathlib.Core.Bool.{cond}
+use mathlib.Core.List.{List, [], _∷_}
+use Prim.Native.Nat.{ℕ, zero, suc, _≤_, _<_}
+use lib.Dec.{eqb, ltb}
+use lib.ListN.{length, getD, take, drop}
+use Rattle.shape.specs.Tree.{Tree, empty, node, pattern, permutation}
+
+unfoldable pub count : ℕ → List ℕ → ℕ
+count x [] = 0
+count x (y ∷ p) = cond (eqb y x) (suc (count x p)) (count x p)
+
+unfoldable pub below : ℕ → List ℕ → ℕ
+below x [] = 0
+below x (y ∷ p) = cond (ltb y x) (suc (below x p)) (below x p)
+
+-- "held one to a byte, value 0 or 1. It is feasible when it has n ones and n zeros and no prefix has more zeros than ones."
+pub record Feasible (n : ℕ) (p : List ℕ) : Type 0 where
+  pub places : (i : ℕ) → i < length p → getD p i 0 ≤ 1
+  pub ones : count 1 p ≡ n
+  pub zeros : count 0 p ≡ n
+  pub prefix : (i : ℕ) → count 0 (take i p) ≤ count 1 (take i p)
+
+-- A permutation of 1..n, which "is a tree permutation when no three entries in positions i < j < k have entry k < entry i < entry j."
+pub record TreePermutation (n : ℕ) (p : List ℕ) : Type 0 where
+  pub entries : length p ≡ n
+  pub least : (i : ℕ) → i < length p → 1 ≤ getD p i 0
+  pub most : (i : ℕ) → i < length p → getD p i 0 ≤ n
+  pub distinct : (i j : ℕ) → i < j → j < length p → getD p i 0 ≡ getD p j 0 → ⊥
+  pub avoids : (i j k : ℕ) → i < j → j < k → k < length p → getD p k 0 < getD p i 0 → getD p i 0 < getD p j 0 → ⊥
+
+-- The trees that a pattern's places from some place on complete, read from the last place to the first: a 0 puts an empty tree before
+-- the others, and a 1 makes the first two of them the left and the right part of a node.
+abbrev pub joined : List Tree → List Tree
+joined [] = []
+joined (l ∷ []) = []
+joined (l ∷ r ∷ ts) = node l r ∷ ts
+
+unfoldable pub forest : List ℕ → List Tree
+forest [] = empty ∷ []
+forest (zero ∷ p) = empty ∷ forest p
+forest (suc x ∷ p) = joined (forest p)
+
+unfoldable pub patternTree : List ℕ → Tree
+patternTree p = getD (forest p) 0 empty
+
+-- The first entry is the root's label; the smaller ones after it are the left part, the larger ones the right part. The first argument
+-- bounds how deep the tree is taken apart.
+unfoldable pub cutTree : ℕ → List ℕ → Tree
+cutTree zero p = empty
+cutTree (suc d) [] = empty
+cutTree (suc d) (x ∷ p) = node (cutTree d (take (below x p) p)) (cutTree d (drop (below x p) p))
+
+unfoldable pub permutationTree : List ℕ → Tree
+permutationTree p = cutTree (length p) p
+
+pub record Form : Type 1 where
+  pub WellFormed : ℕ → List ℕ → Type 0
+  pub write : Tree → List ℕ
+  pub read : List ℕ → Tree
+
+abbrev pub patterns : Form
+patterns = record { WellFormed = Feasible; write = pattern; read = patternTree }
+
+abbrev pub permutations : Form
+permutations = record { WellFormed = TreePermutation; write = permutation; read = permutationTree }

@@ -1,0 +1,5 @@
+pub mod Tree
+pub mod Form
+pub mod Order
+pub mod Number
+pub mod Numbering

@@ -1,0 +1,30 @@
+-- The orders.
+--     Local          "Local (001, definition 2)"
+--     Natural        "Natural (004)", which is 001's definition 1
+--     Dictionary     dictionary order of lists of one length
+-- Assumes nothing.
+use mathlib.Core.Path.{_≡_}
+use mathlib.Core.List.{List, _∷_}
+use Prim.Native.Nat.{ℕ, _<_}
+use Rattle.shape.specs.Tree.{Tree, empty, node, size}
+
+pub data Local : Tree → Tree → Type 0 where
+  -- (1) T is empty and T' is not
+  empty-first : {l r : Tree} → Local empty (node l r)
+  -- (2) both T and T' are not empty, and left(T) < left(T')
+  left-first : {l r l′ r′ : Tree} → Local l l′ → Local (node l r) (node l′ r′)
+  -- (3) both T and T' are not empty, and left(T) = left(T') and right(T) < right(T')
+  right-first : {l r r′ : Tree} → Local r r′ → Local (node l r) (node l r′)
+
+pub data Natural : Tree → Tree → Type 0 where
+  -- (1) |T| < |T'|
+  smaller-first : {s t : Tree} → size s < size t → Natural s t
+  -- (2) |T| = |T'| and left(T) < left(T')
+  left-first : {l r l′ r′ : Tree} → size (node l r) ≡ size (node l′ r′) → Natural l l′ → Natural (node l r) (node l′ r′)
+  -- (3) |T| = |T'| and left(T) = left(T') and right(T) < right(T')
+  right-first : {l r r′ : Tree} → size (node l r) ≡ size (node l r′) → Natural r r′ → Natural (node l r) (node l r′)
+
+-- The smaller number at the first place where the lists differ. Of lists of one length none ends before that place.
+pub data Dictionary : List ℕ → List ℕ → Type 0 where
+  differ : {x y : ℕ} {p q : List ℕ} → x < y → Dictionary (x ∷ p) (y ∷ q)
+  agree : {x : ℕ} {p q : List ℕ} → Dictionary p q → Dictionary (x ∷ p) (x ∷ q)
