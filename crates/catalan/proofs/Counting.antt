@@ -21,11 +21,11 @@ use Rattle.catalan.specs.Count.{C, binom, binomBefore, ways, words, pref
 use Rattle.catalan.proofs.Sums.{sum-front, sum-plus, sum-cong, conv, conv-sum, conv-plus, conv-none}
 use Rattle.catalan.proofs.Binomials.{binom-next, binom-absorb, binom-pascal, binom-mirror}
 
-words-one : (m : ℕ) → words m 0 ≡ 1
+pub words-one : (m : ℕ) → words m 0 ≡ 1
 unfolding words
 words-one m = refl
 
-words-step : (m a : ℕ) → words (suc m) (suc a) ≡ words m (suc a) + words (suc (suc m)) a
+pub words-step : (m a : ℕ) → words (suc m) (suc a) ≡ words m (suc a) + words (suc (suc m)) a
 unfolding words
 words-step m a = refl
 

@@ -1,1 +1,3 @@
-
+pub mod Patterns
+pub mod Orders
+pub mod LocalNumbers

@@ -1,0 +1,227 @@
+-- The orders are total orders, and dictionary order of each form is its order of trees.
+--     Comparison              before, the same or after
+--     dictionary-irreflexive, dictionary-asymmetric, dictionary-compare
+--     positioned              a number that follows dictionary order is the position in it
+--     local-compare, natural-compare          any two trees stand in order, or are the same
+--     local-pattern, pattern-local            the local order is dictionary order of patterns of one size
+--     natural-permutation, permutation-natural     the natural order is dictionary order of permutations of one size
+--     local-irreflexive, local-transitive, natural-irreflexive, natural-transitive
+-- Assumes nothing.
+use mathlib.Core.Path.{_≡_, refl, sym, ap, ap₂, _∙_, subst, subst₂}
+use mathlib.Core.Logic.{_↔_}
+use mathlib.Core.List.{List, [], _∷_, _++_, append-assoc}
+use Prim.Native.Nat.{ℕ, zero, suc, _+_, _-_, _*_, _≤_, _<_}
+use native.Mathlib.Nat.{lt-irrefl, lt-trans, lt-suc-self, lt-of-lt-of-le, lt-of-le-of-lt, le-of-eq}
+use native.Mathlib.Omega.{arith}
+use lib.ListN.{length}
+use Rattle.shape.specs.Tree.{Tree, empty, node, size, pattern, permutation, permutationFrom}
+use Rattle.shape.specs.Order.{Local, Natural, Dictionary, differ, agree}
+use Rattle.shape.proofs.Patterns.{length-pattern}
+
+-- x stands before y, is y, or stands after it
+pub data Comparison {A : Type 0} (Before : A → A → Type 0) (x y : A) : Type 0 where
+  before : Before x y → Comparison Before x y
+  same : x ≡ y → Comparison Before x y
+  after : Before y x → Comparison Before x y
+
+compare-numbers : (m n : ℕ) → Comparison _<_ m n
+compare-numbers zero zero = same refl
+compare-numbers zero (suc n) = before (omega arith)
+compare-numbers (suc m) zero = after (omega arith)
+compare-numbers (suc m) (suc n) = up (compare-numbers m n)
+  where
+    up : Comparison _<_ m n → Comparison _<_ (suc m) (suc n)
+    up (before h) = before (omega arith)
+    up (same e) = same (ap suc e)
+    up (after h) = after (omega arith)
+
+only-before : {A : Type 0} {Before : A → A → Type 0} {x y : A} → Comparison Before x y → (x ≡ y → ⊥) → (Before y x → ⊥) → Before x y
+only-before (before h) f g = h
+only-before (same e) f g = absurd (f e)
+only-before (after h) f g = absurd (g h)
+
+-- ---- dictionary order
+
+pub dictionary-irreflexive : {p : List ℕ} → Dictionary p p → ⊥
+dictionary-irreflexive (differ {x = x} h) = lt-irrefl x h
+dictionary-irreflexive (agree d) = dictionary-irreflexive d
+
+pub dictionary-transitive : {p q r : List ℕ} → Dictionary p q → Dictionary q r → Dictionary p r
+dictionary-transitive (differ h) (differ k) = differ (lt-trans h k)
+dictionary-transitive (differ h) (agree d) = differ h
+dictionary-transitive (agree d) (differ h) = differ h
+dictionary-transitive (agree d) (agree c) = agree (dictionary-transitive d c)
+
+pub dictionary-asymmetric : {p q : List ℕ} → Dictionary p q → Dictionary q p → ⊥
+dictionary-asymmetric d c = dictionary-irreflexive (dictionary-transitive d c)
+
+pub dictionary-compare : (p q : List ℕ) → length p ≡ length q → Comparison Dictionary p q
+dictionary-compare [] [] h = same refl
+dictionary-compare [] (y ∷ q) h = absurd (omega arith)
+dictionary-compare (x ∷ p) [] h = absurd (omega arith)
+dictionary-compare (x ∷ p) (y ∷ q) h = decide (compare-numbers x y) (dictionary-compare p q (omega arith))
+  where
+    rest : Comparison Dictionary p q → Comparison Dictionary (x ∷ p) (x ∷ q)
+    rest (before d) = before (agree d)
+    rest (same e) = same (ap {B = List ℕ} (λ r. x ∷ r) e)
+    rest (after d) = after (agree d)
+
+    decide : Comparison _<_ x y → Comparison Dictionary p q → Comparison Dictionary (x ∷ p) (y ∷ q)
+    decide (before k) c = before (differ k)
+    decide (same e) c = subst (λ (z : ℕ). Comparison Dictionary (x ∷ p) (z ∷ q)) e (rest c)
+    decide (after k) c = after (differ k)
+
+-- after a common beginning, and whatever follows
+common : (w : List ℕ) {p q : List ℕ} → Dictionary p q → Dictionary (w ++ p) (w ++ q)
+common [] d = d
+common (x ∷ w) d = agree (common w d)
+
+followed : {p q : List ℕ} (u v : List ℕ) → Dictionary p q → Dictionary (p ++ u) (q ++ v)
+followed u v (differ h) = differ h
+followed u v (agree d) = agree (followed u v d)
+
+-- what two lists of one length have in common at their end does not decide
+unfollowed : (p q w : List ℕ) → length p ≡ length q → Dictionary (p ++ w) (q ++ w) → Dictionary p q
+unfollowed [] [] w h d = absurd (dictionary-irreflexive d)
+unfollowed [] (y ∷ q) w h d = absurd (omega arith)
+unfollowed (x ∷ p) [] w h d = absurd (omega arith)
+unfollowed (x ∷ p) (y ∷ q) w h (differ k) = differ k
+unfollowed (x ∷ p) (y ∷ q) w h (agree d) = agree (unfollowed p q w (omega arith) d)
+
+-- a number that follows dictionary order is the position in it
+pub positioned : (number : List ℕ → ℕ) (p q : List ℕ) → (Dictionary p q → number p < number q) → (Dictionary q p → number q < number p)
+    → length p ≡ length q → Dictionary p q ↔ (number p < number q)
+positioned number p q up down e =
+    (up, λ h. only-before (dictionary-compare p q e) (λ s. absurd (let k = ap number s in omega arith)) (λ d. let k = down d in omega arith))
+
+-- an order of trees that any two stand in, and that dictionary order of a form keeps, is what dictionary order says
+reflected : {Before : Tree → Tree → Type 0} (compare : (s t : Tree) → Comparison Before s t) (write : Tree → List ℕ)
+    → ((s t : Tree) → size s ≡ size t → Before s t → Dictionary (write s) (write t))
+    → (s t : Tree) → size s ≡ size t → Dictionary (write s) (write t) → Before s t
+reflected compare write kept s t e d =
+    only-before (compare s t)
+    (λ q. dictionary-irreflexive (subst (λ (x : Tree). Dictionary (write x) (write t)) q d))
+    (λ c. dictionary-asymmetric d (kept t s (sym e) c))
+
+-- ---- the local order
+
+pub local-irreflexive : {t : Tree} → Local t t → ⊥
+local-irreflexive (Local.left-first d) = local-irreflexive d
+local-irreflexive (Local.right-first d) = local-irreflexive d
+
+pub local-transitive : {s t u : Tree} → Local s t → Local t u → Local s u
+local-transitive Local.empty-first (Local.left-first d) = Local.empty-first
+local-transitive Local.empty-first (Local.right-first d) = Local.empty-first
+local-transitive (Local.left-first c) (Local.left-first d) = Local.left-first (local-transitive c d)
+local-transitive (Local.left-first c) (Local.right-first d) = Local.left-first c
+local-transitive (Local.right-first c) (Local.left-first d) = Local.left-first d
+local-transitive (Local.right-first c) (Local.right-first d) = Local.right-first (local-transitive c d)
+
+pub local-compare : (s t : Tree) → Comparison Local s t
+local-compare empty empty = same refl
+local-compare empty (node l r) = before Local.empty-first
+local-compare (node l r) empty = after Local.empty-first
+local-compare (node l r) (node l′ r′) = decide (local-compare l l′) (local-compare r r′)
+  where
+    rest : Comparison Local r r′ → Comparison Local (node l r) (node l r′)
+    rest (before d) = before (Local.right-first d)
+    rest (same e) = same (ap (node l) e)
+    rest (after d) = after (Local.right-first d)
+
+    decide : Comparison Local l l′ → Comparison Local r r′ → Comparison Local (node l r) (node l′ r′)
+    decide (before d) c = before (Local.left-first d)
+    decide (same e) c = subst (λ (x : Tree). Comparison Local (node l r) (node x r′)) e (rest c)
+    decide (after d) c = after (Local.left-first d)
+
+-- the patterns of two trees of any sizes, each with its dropped 0 and whatever follows
+laid-before : {s t : Tree} → Local s t → (u v : List ℕ) → Dictionary (pattern s ++ 0 ∷ u) (pattern t ++ 0 ∷ v)
+unfolding pattern
+laid-before Local.empty-first u v = differ (lt-suc-self 0)
+laid-before (Local.left-first {l} {r} {l′} {r′} d) u v =
+    subst₂ (λ (x y : List ℕ). Dictionary (1 ∷ x) (1 ∷ y)) (sym (append-assoc (pattern l) (0 ∷ pattern r) (0 ∷ u))) (sym (append-assoc (pattern l′) (0 ∷ pattern r′) (0 ∷ v)))
+    (agree (laid-before d (pattern r ++ 0 ∷ u) (pattern r′ ++ 0 ∷ v)))
+laid-before (Local.right-first {l} {r} {r′} d) u v =
+    subst₂ (λ (x y : List ℕ). Dictionary (1 ∷ x) (1 ∷ y)) (sym (append-assoc (pattern l) (0 ∷ pattern r) (0 ∷ u))) (sym (append-assoc (pattern l) (0 ∷ pattern r′) (0 ∷ v)))
+    (agree (common (pattern l) (agree (laid-before d u v))))
+
+pub local-pattern : (s t : Tree) → size s ≡ size t → Local s t → Dictionary (pattern s) (pattern t)
+local-pattern s t e d =
+    unfollowed (pattern s) (pattern t) (0 ∷ []) (omega (arith, length-pattern s, length-pattern t)) (laid-before d [] [])
+
+pub pattern-local : (s t : Tree) → size s ≡ size t → Dictionary (pattern s) (pattern t) → Local s t
+pattern-local = reflected local-compare pattern local-pattern
+
+-- ---- the natural order
+
+natural-size : {s t : Tree} → Natural s t → size s ≤ size t
+natural-size (Natural.smaller-first h) = omega arith
+natural-size (Natural.left-first e d) = omega arith
+natural-size (Natural.right-first e d) = omega arith
+
+pub natural-irreflexive : {t : Tree} → Natural t t → ⊥
+natural-irreflexive (Natural.smaller-first {s} h) = lt-irrefl (size s) h
+natural-irreflexive (Natural.left-first e d) = natural-irreflexive d
+natural-irreflexive (Natural.right-first e d) = natural-irreflexive d
+
+pub natural-transitive : {s t u : Tree} → Natural s t → Natural t u → Natural s u
+natural-transitive (Natural.smaller-first h) d = Natural.smaller-first (lt-of-lt-of-le h (natural-size d))
+natural-transitive (Natural.left-first e c) (Natural.smaller-first h) = Natural.smaller-first (lt-of-le-of-lt (le-of-eq e) h)
+natural-transitive (Natural.left-first e c) (Natural.left-first f d) = Natural.left-first (e ∙ f) (natural-transitive c d)
+natural-transitive (Natural.left-first e c) (Natural.right-first f d) = Natural.left-first (e ∙ f) c
+natural-transitive (Natural.right-first e c) (Natural.smaller-first h) = Natural.smaller-first (lt-of-le-of-lt (le-of-eq e) h)
+natural-transitive (Natural.right-first e c) (Natural.left-first f d) = Natural.left-first (e ∙ f) d
+natural-transitive (Natural.right-first e c) (Natural.right-first f d) = Natural.right-first (e ∙ f) (natural-transitive c d)
+
+empty-smaller : (l r : Tree) → size empty < size (node l r)
+unfolding size
+empty-smaller l r = omega arith
+
+pub natural-compare : (s t : Tree) → Comparison Natural s t
+natural-compare empty empty = same refl
+natural-compare empty (node l r) = before (Natural.smaller-first (empty-smaller l r))
+natural-compare (node l r) empty = after (Natural.smaller-first (empty-smaller l r))
+natural-compare (node l r) (node l′ r′) =
+    decide (compare-numbers (size (node l r)) (size (node l′ r′))) (natural-compare l l′) (natural-compare r r′)
+  where
+    right : size (node l r) ≡ size (node l r′) → Comparison Natural r r′ → Comparison Natural (node l r) (node l r′)
+    right e (before d) = before (Natural.right-first e d)
+    right e (same q) = same (ap (node l) q)
+    right e (after d) = after (Natural.right-first (sym e) d)
+
+    left : size (node l r) ≡ size (node l′ r′) → Comparison Natural l l′ → Comparison Natural r r′
+        → Comparison Natural (node l r) (node l′ r′)
+    left e (before d) c = before (Natural.left-first e d)
+    left e (same q) c =
+        subst (λ (x : Tree). Comparison Natural (node l r) (node x r′)) q
+        (right (e ∙ ap (λ (x : Tree). size (node x r′)) (sym q)) c)
+    left e (after d) c = after (Natural.left-first (sym e) d)
+
+    decide : Comparison _<_ (size (node l r)) (size (node l′ r′)) → Comparison Natural l l′ → Comparison Natural r r′
+        → Comparison Natural (node l r) (node l′ r′)
+    decide (before h) b c = before (Natural.smaller-first h)
+    decide (same e) b c = left e b c
+    decide (after h) b c = after (Natural.smaller-first h)
+
+-- the labels may begin after any number
+natural-from : {s t : Tree} → size s ≡ size t → Natural s t → (base : ℕ) → Dictionary (permutationFrom base s) (permutationFrom base t)
+unfolding permutationFrom
+natural-from e (Natural.smaller-first h) base = absurd (omega arith)
+natural-from e (Natural.left-first {l} {r} {l′} {r′} f d) base = decide (compare-numbers (size l) (size l′)) (λ q. natural-from q d base)
+  where
+    decide : Comparison _<_ (size l) (size l′) → (size l ≡ size l′ → Dictionary (permutationFrom base l) (permutationFrom base l′))
+        → Dictionary (permutationFrom base (node l r)) (permutationFrom base (node l′ r′))
+    decide (before h) g = let lower : suc (base + size l) < suc (base + size l′) = omega arith in differ lower
+    decide (same q) g =
+        subst (λ (x : ℕ). Dictionary (permutationFrom base (node l r)) (suc (base + x) ∷ permutationFrom base l′ ++ permutationFrom (suc (base + x)) r′)) q
+        (agree (followed _ _ (g q)))
+    decide (after h) g = absurd (omega (arith, natural-size d))
+natural-from e (Natural.right-first {l} {r} {r′} f d) base =
+    let parts : size r ≡ size r′ = unfold size in omega arith in
+    agree (common (permutationFrom base l) (natural-from parts d (suc (base + size l))))
+
+pub natural-permutation : (s t : Tree) → size s ≡ size t → Natural s t → Dictionary (permutation s) (permutation t)
+unfolding permutation
+natural-permutation s t e d = natural-from e d 0
+
+pub permutation-natural : (s t : Tree) → size s ≡ size t → Dictionary (permutation s) (permutation t) → Natural s t
+permutation-natural = reflected natural-compare permutation natural-permutation
