@@ -18,7 +18,7 @@ use native.Mathlib.Decide.{decLe}
 use mathlib.Core.Logic.{inl, inr}
 use lib.Dec.{lit<}
 use Rattle.catalan.specs.Count.{C, binom, binomBefore, ways, words, prefixes, sum}
-use Rattle.catalan.proofs.Sums.{sum-front, sum-plus, sum-cong, conv, conv-sum, conv-plus, conv-none}
+use Rattle.catalan.proofs.Sums.{sum-last, sum-front, sum-plus, sum-cong, conv, conv-sum, conv-plus, conv-none}
 use Rattle.catalan.proofs.Binomials.{binom-next, binom-absorb, binom-pascal, binom-mirror}
 
 pub words-one : (m : ℕ) → words m 0 ≡ 1
@@ -186,10 +186,6 @@ prefixes-no-tree (suc a) = refl
 words-one-node : (m : ℕ) → words m 1 ≡ m
 words-one-node zero = unfold words in refl
 words-one-node (suc m) = rw words-step (omega (arith, words-one-node m, words-one (suc (suc m))))
-
-sum-last : (n : ℕ) (f : ℕ → ℕ) → sum (suc n) f ≡ sum n f + f n
-unfolding sum
-sum-last n f = refl
 
 pub prefixes-words : (a m : ℕ) → suc (prefixes m a) ≡ sum (suc (suc a)) (words m)
 prefixes-words zero m = unfold prefixes sum in omega (arith, words-one m, words-one-node m)

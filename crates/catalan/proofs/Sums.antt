@@ -1,4 +1,5 @@
 -- Laws of sums and convolutions.
+--     sum-last, sum-rises     one more term; more terms, no smaller a sum
 --     sum-front       a sum taken from its first term
 --     sum-plus        the sum of sums
 --     sum-cong        equal terms, equal sums
@@ -10,6 +11,17 @@ use Prim.Native.Nat.{ℕ, zero, suc, _+_, _-_, _*_, _≤_, _<_, zero-le}
 use native.Mathlib.Nat.{suc-sub-suc, sub-zero, sub-self}
 use native.Mathlib.Omega.{arith}
 use Rattle.catalan.specs.Count.{sum}
+
+pub sum-last : (n : ℕ) (f : ℕ → ℕ) → sum (suc n) f ≡ sum n f + f n
+unfolding sum
+sum-last n f = refl
+
+pub sum-rises : (f : ℕ → ℕ) {m n : ℕ} → m ≤ n → sum m f ≤ sum n f
+sum-rises f {m} {n} h = climb (n - m) m (omega arith)
+  where
+    climb : (d m : ℕ) → m + d ≡ n → sum m f ≤ sum n f
+    climb zero m e = let same : m ≡ n = omega arith in rw same (omega arith)
+    climb (suc d) m e = omega (arith, sum-last m f, climb d (suc m) (omega arith))
 
 pub sum-front : (n : ℕ) (f : ℕ → ℕ) → sum (suc n) f ≡ f 0 + sum n (λ j. f (suc j))
 unfolding sum

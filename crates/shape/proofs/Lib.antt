@@ -1,3 +1,4 @@
 pub mod Patterns
 pub mod Orders
 pub mod LocalNumbers
+pub mod NaturalNumbers

@@ -153,7 +153,7 @@ pattern-local = reflected local-compare pattern local-pattern
 
 -- ---- the natural order
 
-natural-size : {s t : Tree} → Natural s t → size s ≤ size t
+pub natural-size : {s t : Tree} → Natural s t → size s ≤ size t
 natural-size (Natural.smaller-first h) = omega arith
 natural-size (Natural.left-first e d) = omega arith
 natural-size (Natural.right-first e d) = omega arith
