@@ -1,6 +1,7 @@
 -- Laws of sums and convolutions.
 --     sum-last, sum-rises     one more term; more terms, no smaller a sum
 --     sum-front       a sum taken from its first term
+--     sum-split       the first m terms, and then the n after them
 --     sum-plus        the sum of sums
 --     sum-cong        equal terms, equal sums
 --     sum-most        terms of at most 1 sum to at most their number
@@ -8,7 +9,7 @@
 -- Assumes nothing.
 use mathlib.Core.Path.{_≡_, refl, sym, ap, _∙_}
 use Prim.Native.Nat.{ℕ, zero, suc, _+_, _-_, _*_, _≤_, _<_, zero-le}
-use native.Mathlib.Nat.{suc-sub-suc, sub-zero, sub-self}
+use native.Mathlib.Nat.{add-zero, add-suc, suc-sub-suc, sub-zero, sub-self}
 use native.Mathlib.Omega.{arith}
 use Rattle.catalan.specs.Count.{sum}
 
@@ -27,6 +28,11 @@ pub sum-front : (n : ℕ) (f : ℕ → ℕ) → sum (suc n) f ≡ f 0 + sum n (�
 unfolding sum
 sum-front zero f = omega arith
 sum-front (suc n) f = omega (arith, sum-front n f)
+
+pub sum-split : (m n : ℕ) (f : ℕ → ℕ) → sum (m + n) f ≡ sum m f + sum n (λ j. f (m + j))
+unfolding sum
+sum-split m zero f = rw add-zero (omega arith)
+sum-split m (suc n) f = rw add-suc (omega (arith, sum-split m n f))
 
 pub sum-plus : (n : ℕ) (f g : ℕ → ℕ) → sum n (λ j. f j + g j) ≡ sum n f + sum n g
 unfolding sum

@@ -19,7 +19,7 @@ use Rattle.shape.specs.Form.{count, Feasible}
 use Rattle.shape.specs.Order.{Dictionary, differ, agree}
 use Rattle.shape.specs.Number.{localNumber, localPlaces, localPattern}
 use Rattle.shape.specs.Numbering.{Numbering, Lawful, local}
-use Rattle.shape.proofs.Orders.{positioned}
+use Rattle.shape.proofs.Orders.{positioned, local-pattern, pattern-local}
 use Rattle.shape.proofs.Patterns.{Word, done, zero-next, one-next, word-ones, word-zeros, word-length, feasible-word, word-feasible}
 
 -- what a 1 adds: the words that have a 0 in its place
@@ -46,11 +46,11 @@ word-number-below (one-next {e} {a} {w} r) = omega (arith, number-one r, word-nu
 
 -- ---- places from a number
 
-next-zero : (i a b k : ℕ) → k < ways a (b - 1) → localPlaces (suc i) a b k ≡ 0 ∷ localPlaces i a (b - 1) k
+pub next-zero : (i a b k : ℕ) → k < ways a (b - 1) → localPlaces (suc i) a b k ≡ 0 ∷ localPlaces i a (b - 1) k
 unfolding localPlaces
 next-zero i a b k h = rw (lt-ltb k (ways a (b - 1)) h)
 
-next-one : (i a b k : ℕ) → ways a (b - 1) ≤ k → localPlaces (suc i) a b k ≡ 1 ∷ localPlaces i (a - 1) b (k - ways a (b - 1))
+pub next-one : (i a b k : ℕ) → ways a (b - 1) ≤ k → localPlaces (suc i) a b k ≡ 1 ∷ localPlaces i (a - 1) b (k - ways a (b - 1))
 unfolding localPlaces
 next-one i a b k h = rw (le-ltb k (ways a (b - 1)) h)
 
@@ -137,6 +137,7 @@ local-lawful n =
       shape-formed = λ k h. word-feasible (placed k h .0);
       number-shape = λ k h. placed k h .1;
       shape-number = λ p g. unfold localPattern in number-places (feasible-word g) (2 * n) n (omega arith) (omega arith);
+      ordered = λ s t e. (local-pattern s t e, pattern-local s t e);
       position = λ p q g h.
           let v = feasible-word g in
           let w = feasible-word h in

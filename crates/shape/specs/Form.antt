@@ -5,6 +5,7 @@
 --     TreePermutation n p      p is a tree permutation of size n
 --     patternTree, permutationTree     the tree that is written so; of a list that is not well formed they say nothing
 --     Form                     a form: what is well formed, and the tree there and back; `patterns` and `permutations` are the two
+--     Faithful F               the form F is one to one with trees
 -- Assumes nothing.
 use mathlib.Core.Path.{_≡_}
 use mathlib.Core.Bool.{cond}
@@ -12,7 +13,7 @@ use mathlib.Core.List.{List, [], _∷_}
 use Prim.Native.Nat.{ℕ, zero, suc, _≤_, _<_}
 use lib.Dec.{eqb, ltb}
 use lib.ListN.{length, getD, take, drop}
-use Rattle.shape.specs.Tree.{Tree, empty, node, pattern, permutation}
+use Rattle.shape.specs.Tree.{Tree, empty, node, size, pattern, permutation}
 
 unfoldable pub count : ℕ → List ℕ → ℕ
 count x [] = 0
@@ -72,3 +73,10 @@ patterns = record { WellFormed = Feasible; write = pattern; read = patternTree }
 
 abbrev pub permutations : Form
 permutations = record { WellFormed = TreePermutation; write = permutation; read = permutationTree }
+
+-- The well formed lists of size n are the trees of n nodes, written down, and each tree is read back.
+pub record Faithful (F : Form) : Type 0 where
+  pub write-formed : (t : Tree) → F .WellFormed (size t) (F .write t)
+  pub read-write : (t : Tree) → F .read (F .write t) ≡ t
+  pub write-read : (n : ℕ) (p : List ℕ) → F .WellFormed n p → F .write (F .read p) ≡ p
+  pub read-size : (n : ℕ) (p : List ℕ) → F .WellFormed n p → size (F .read p) ≡ n

@@ -1,44 +1,56 @@
--- What the two orders have in common: each numbers the well formed lists of one size.
---     Numbering             how many shapes there are, which lists are well formed, number and shape
---     Lawful                number and shape are inverse below the total, and the number is the position in dictionary order
---     local n, natural n    the patterns in the local order, the tree permutations in the natural order
---     next, previous        one step along a numbering
---     numbersFrom, listOf   the numbers from one on, and the whole list of shapes in order
+-- What the two orders have in common: each numbers the shapes of one size, written in one form.
+--     Numbering              the form, the size, the order of trees, number and shape
+--     local n, natural n     the patterns in the local order, the tree permutations in the natural order
+--     total, WellFormed      how many shapes there are, and which lists are one
+--     Lawful                 number and shape are inverse below the total, and the number is the position
+--     next, previous         one step along a numbering
+--     numbersFrom            so many numbers, from one on
+--     listOf, treesOf        the whole list of shapes in order, as lists and as trees
 -- Assumes nothing.
 use mathlib.Core.Path.{_≡_}
 use mathlib.Core.Logic.{_↔_}
 use mathlib.Core.List.{List, [], _∷_, map}
-use Prim.Native.Nat.{ℕ, zero, suc, _+_, _-_, _≤_, _<_}
+use Prim.Native.Nat.{ℕ, zero, suc, _+_, _-_, _<_}
 use Rattle.catalan.specs.Count.{C}
-use Rattle.shape.specs.Tree.{Tree, permutation}
-use Rattle.shape.specs.Form.{Feasible, TreePermutation, permutationTree}
-use Rattle.shape.specs.Order.{Dictionary}
+use Rattle.shape.specs.Tree.{Tree, size, permutation}
+use Rattle.shape.specs.Form.{Form, patterns, permutations, permutationTree}
+use Rattle.shape.specs.Order.{Local, Natural, Dictionary}
 use Rattle.shape.specs.Number.{localNumber, localPattern, naturalNumber, naturalTree}
 
 pub record Numbering : Type 1 where
-  pub total : ℕ
-  pub WellFormed : List ℕ → Type 0
+  pub form : Form
+  pub nodes : ℕ
+  pub Before : Tree → Tree → Type 0
   pub number : List ℕ → ℕ
   pub shape : ℕ → List ℕ
 
-pub record Lawful (N : Numbering) : Type 0 where
-  pub number-below : (p : List ℕ) → N .WellFormed p → N .number p < N .total
-  pub shape-formed : (k : ℕ) → k < N .total → N .WellFormed (N .shape k)
-  pub number-shape : (k : ℕ) → k < N .total → N .number (N .shape k) ≡ k
-  pub shape-number : (p : List ℕ) → N .WellFormed p → N .shape (N .number p) ≡ p
-  pub position : (p q : List ℕ) → N .WellFormed p → N .WellFormed q → Dictionary p q ↔ (N .number p < N .number q)
-
 abbrev pub local : ℕ → Numbering
-local n = record { total = C n; WellFormed = Feasible n; number = localNumber; shape = localPattern n }
+local n = record { form = patterns; nodes = n; Before = Local; number = localNumber; shape = localPattern n }
 
 abbrev pub natural : ℕ → Numbering
 natural n =
     record {
-      total = C n;
-      WellFormed = TreePermutation n;
+      form = permutations;
+      nodes = n;
+      Before = Natural;
       number = λ p. naturalNumber (permutationTree p);
       shape = λ k. permutation (naturalTree n k)
     }
+
+abbrev pub total : Numbering → ℕ
+total N = C (N .nodes)
+
+abbrev pub WellFormed : Numbering → List ℕ → Type 0
+WellFormed N p = N .form .WellFormed (N .nodes) p
+
+pub record Lawful (N : Numbering) : Type 0 where
+  pub number-below : (p : List ℕ) → WellFormed N p → N .number p < total N
+  pub shape-formed : (k : ℕ) → k < total N → WellFormed N (N .shape k)
+  pub number-shape : (k : ℕ) → k < total N → N .number (N .shape k) ≡ k
+  pub shape-number : (p : List ℕ) → WellFormed N p → N .shape (N .number p) ≡ p
+  -- "On patterns of one size this is dictionary order", "On permutations of one size it is dictionary order."
+  pub ordered : (s t : Tree) → size s ≡ size t → N .Before s t ↔ Dictionary (N .form .write s) (N .form .write t)
+  pub position : (p q : List ℕ) → WellFormed N p → WellFormed N q → Dictionary p q ↔ (N .number p < N .number q)
 
 unfoldable pub next : Numbering → List ℕ → List ℕ
 next N p = N .shape (N .number p + 1)
@@ -52,4 +64,7 @@ numbersFrom k zero = []
 numbersFrom k (suc n) = k ∷ numbersFrom (suc k) n
 
 unfoldable pub listOf : Numbering → List (List ℕ)
-listOf N = map (N .shape) (numbersFrom 0 (N .total))
+listOf N = map (N .shape) (numbersFrom 0 (total N))
+
+unfoldable pub treesOf : Numbering → List Tree
+treesOf N = map (N .form .read) (listOf N)

@@ -1,0 +1,133 @@
+-- What holds of every entry of a list, and of every two and every three of them in the order in which they stand.
+--     All P l, Pairs R l, Triples T l                by recursion on the list
+--     all-map, all-both                              what follows for each entry, from one fact or from two, follows for all
+--     pairs-all                                      what follows for any two entries follows for every two in order
+--     all-cross                                      what follows for an entry of each of two lists follows for all of both
+--     all-append, all-left, all-right                all entries of u ++ v are those of u and those of v
+--     pairs-append, pairs-left, pairs-right          the same for every two; pairs-append is told of those with one in u and one in v
+--     triples-append, triples-left, triples-right    the same for every three; triples-append is told of those with one or two in u
+--     all-at, pairs-at, triples-at                   of a list of numbers: so it is at positions i, i < j, i < j < k
+--     all-of, pairs-of, triples-of                   and what is so at all such positions is so of the list
+-- Assumes nothing.
+use mathlib.Core.List.{List, [], _∷_, _++_}
+use Prim.Native.Nat.{ℕ, zero, suc, _<_}
+use native.Mathlib.Omega.{arith}
+use lib.ListN.{length, getD}
+
+module _ {A : Type 0} where
+  abbrev pub All : (A → Type 0) → List A → Type 0
+  All P [] = Unit
+  All P (x ∷ l) = P x × All P l
+
+  abbrev pub Pairs : (A → A → Type 0) → List A → Type 0
+  Pairs R [] = Unit
+  Pairs R (x ∷ l) = All (R x) l × Pairs R l
+
+  abbrev pub Triples : (A → A → A → Type 0) → List A → Type 0
+  Triples T [] = Unit
+  Triples T (x ∷ l) = Pairs (T x) l × Triples T l
+
+  -- ---- consequences
+
+  pub all-map : {P Q : A → Type 0} → ((x : A) → P x → Q x) → (l : List A) → All P l → All Q l
+  all-map f [] h = tt
+  all-map f (x ∷ l) h = (f x (h .0), all-map f l (h .1))
+
+  pub all-both : {P Q R : A → Type 0} → ((x : A) → P x → Q x → R x) → (l : List A) → All P l → All Q l → All R l
+  all-both f [] g h = tt
+  all-both f (x ∷ l) g h = (f x (g .0) (h .0), all-both f l (g .1) (h .1))
+
+  pub pairs-all : {P : A → Type 0} {R : A → A → Type 0} → ((x y : A) → P x → P y → R x y) → (l : List A) → All P l → Pairs R l
+  pairs-all f [] h = tt
+  pairs-all f (x ∷ l) h = (all-map (λ y. f x y (h .0)) l (h .1), pairs-all f l (h .1))
+
+  pub all-cross : {P Q : A → Type 0} {R : A → A → Type 0} → ((x y : A) → P x → Q y → R x y)
+      → (u v : List A) → All P u → All Q v → All (λ x. All (R x) v) u
+  all-cross f u v g h = all-map (λ x p. all-map (λ y. f x y p) v h) u g
+
+-- ---- one list after another
+
+module _ {A : Type 0} (P : A → Type 0) where
+  pub all-append : (u v : List A) → All P u → All P v → All P (u ++ v)
+  all-append [] v g h = h
+  all-append (x ∷ u) v g h = (g .0, all-append u v (g .1) h)
+
+  pub all-left : (u v : List A) → All P (u ++ v) → All P u
+  all-left [] v h = tt
+  all-left (x ∷ u) v h = (h .0, all-left u v (h .1))
+
+  pub all-right : (u v : List A) → All P (u ++ v) → All P v
+  all-right [] v h = h
+  all-right (x ∷ u) v h = all-right u v (h .1)
+
+module _ {A : Type 0} (R : A → A → Type 0) where
+  pub pairs-append : (u v : List A) → Pairs R u → Pairs R v → All (λ x. All (R x) v) u → Pairs R (u ++ v)
+  pairs-append [] v g h c = h
+  pairs-append (x ∷ u) v g h c = (all-append (R x) u v (g .0) (c .0), pairs-append u v (g .1) h (c .1))
+
+  pub pairs-left : (u v : List A) → Pairs R (u ++ v) → Pairs R u
+  pairs-left [] v h = tt
+  pairs-left (x ∷ u) v h = (all-left (R x) u v (h .0), pairs-left u v (h .1))
+
+  pub pairs-right : (u v : List A) → Pairs R (u ++ v) → Pairs R v
+  pairs-right [] v h = h
+  pairs-right (x ∷ u) v h = pairs-right u v (h .1)
+
+module _ {A : Type 0} (T : A → A → A → Type 0) where
+  pub triples-append : (u v : List A) → Triples T u → Triples T v
+      → Pairs (λ x y. All (T x y) v) u → All (λ x. Pairs (T x) v) u → Triples T (u ++ v)
+  triples-append [] v g h two one = h
+  triples-append (x ∷ u) v g h two one = (pairs-append (T x) u v (g .0) (one .0) (two .0), triples-append u v (g .1) h (two .1) (one .1))
+
+  pub triples-left : (u v : List A) → Triples T (u ++ v) → Triples T u
+  triples-left [] v h = tt
+  triples-left (x ∷ u) v h = (pairs-left (T x) u v (h .0), triples-left u v (h .1))
+
+  pub triples-right : (u v : List A) → Triples T (u ++ v) → Triples T v
+  triples-right [] v h = h
+  triples-right (x ∷ u) v h = triples-right u v (h .1)
+
+-- ---- by positions
+
+module _ (P : ℕ → Type 0) where
+  pub all-at : (p : List ℕ) → All P p → (i : ℕ) → i < length p → P (getD p i 0)
+  all-at [] h i l = absurd (omega arith)
+  all-at (x ∷ p) h zero l = h .0
+  all-at (x ∷ p) h (suc i) l = all-at p (h .1) i (omega arith)
+
+  pub all-of : (p : List ℕ) → ((i : ℕ) → i < length p → P (getD p i 0)) → All P p
+  all-of [] h = tt
+  all-of (x ∷ p) h = (h 0 (omega arith), all-of p (λ i l. h (suc i) (omega arith)))
+
+module _ (R : ℕ → ℕ → Type 0) where
+  pub pairs-at : (p : List ℕ) → Pairs R p
+      → (i j : ℕ) → i < j → j < length p → R (getD p i 0) (getD p j 0)
+  pairs-at [] h i j k l = absurd (omega arith)
+  pairs-at (x ∷ p) h i zero k l = absurd (omega arith)
+  pairs-at (x ∷ p) h zero (suc j) k l = all-at (R x) p (h .0) j (omega arith)
+  pairs-at (x ∷ p) h (suc i) (suc j) k l = pairs-at p (h .1) i j (omega arith) (omega arith)
+
+  pub pairs-of : (p : List ℕ)
+      → ((i j : ℕ) → i < j → j < length p → R (getD p i 0) (getD p j 0)) → Pairs R p
+  pairs-of [] h = tt
+  pairs-of (x ∷ p) h = (
+    all-of (R x) p (λ j l. h 0 (suc j) (omega arith) (omega arith)),
+    pairs-of p (λ i j k l. h (suc i) (suc j) (omega arith) (omega arith)),
+  )
+
+module _ (T : ℕ → ℕ → ℕ → Type 0) where
+  pub triples-at : (p : List ℕ) → Triples T p
+      → (i j k : ℕ) → i < j → j < k → k < length p → T (getD p i 0) (getD p j 0) (getD p k 0)
+  triples-at [] h i j k a b l = absurd (omega arith)
+  triples-at (x ∷ p) h i zero k a b l = absurd (omega arith)
+  triples-at (x ∷ p) h i (suc j) zero a b l = absurd (omega arith)
+  triples-at (x ∷ p) h zero (suc j) (suc k) a b l = pairs-at (T x) p (h .0) j k (omega arith) (omega arith)
+  triples-at (x ∷ p) h (suc i) (suc j) (suc k) a b l = triples-at p (h .1) i j k (omega arith) (omega arith) (omega arith)
+
+  pub triples-of : (p : List ℕ)
+      → ((i j k : ℕ) → i < j → j < k → k < length p → T (getD p i 0) (getD p j 0) (getD p k 0)) → Triples T p
+  triples-of [] h = tt
+  triples-of (x ∷ p) h = (
+    pairs-of (T x) p (λ j k b l. h 0 (suc j) (suc k) (omega arith) (omega arith) (omega arith)),
+    triples-of p (λ i j k a b l. h (suc i) (suc j) (suc k) (omega arith) (omega arith) (omega arith)),
+  )
