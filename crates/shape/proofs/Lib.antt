@@ -5,3 +5,5 @@ pub mod Orders
 pub mod LocalNumbers
 pub mod NaturalNumbers
 pub mod Changes
+pub mod Forms
+pub mod Listing

@@ -2,6 +2,9 @@
 --     All P l, Pairs R l, Triples T l                by recursion on the list
 --     all-map, all-both                              what follows for each entry, from one fact or from two, follows for all
 --     pairs-all                                      what follows for any two entries follows for every two in order
+--     all-member, all-each                           what holds of all holds of each member, and the other way
+--     length-map, getD-map                           a mapped list, place by place
+--     pairs-map                                      every two of a mapped list, from every two of the list
 --     all-cross                                      what follows for an entry of each of two lists follows for all of both
 --     all-append, all-left, all-right                all entries of u ++ v are those of u and those of v
 --     pairs-append, pairs-left, pairs-right          the same for every two; pairs-append is told of those with one in u and one in v
@@ -9,7 +12,8 @@
 --     all-at, pairs-at, triples-at                   of a list of numbers: so it is at positions i, i < j, i < j < k
 --     all-of, pairs-of, triples-of                   and what is so at all such positions is so of the list
 -- Assumes nothing.
-use mathlib.Core.List.{List, [], _∷_, _++_}
+use mathlib.Core.Path.{_≡_, refl, ap, subst⁻¹}
+use mathlib.Core.List.{List, [], _∷_, _++_, map, List·Memᴰ, List·Memᴰ·head, List·Memᴰ·tail}
 use Prim.Native.Nat.{ℕ, zero, suc, _<_}
 use native.Mathlib.Omega.{arith}
 use lib.ListN.{length, getD}
@@ -44,6 +48,37 @@ module _ {A : Type 0} where
   pub all-cross : {P Q : A → Type 0} {R : A → A → Type 0} → ((x y : A) → P x → Q y → R x y)
       → (u v : List A) → All P u → All Q v → All (λ x. All (R x) v) u
   all-cross f u v g h = all-map (λ x p. all-map (λ y. f x y p) v h) u g
+
+  pub all-member : (P : A → Type 0) (l : List A) → All P l → {x : A} → List·Memᴰ x l → P x
+  all-member P (y ∷ l) h (List·Memᴰ·head e) = subst⁻¹ P e (h .0)
+  all-member P (y ∷ l) h (List·Memᴰ·tail m) = all-member P l (h .1) m
+
+  pub all-each : {P : A → Type 0} (l : List A) → ((x : A) → List·Memᴰ x l → P x) → All P l
+  all-each [] h = tt
+  all-each (x ∷ l) h = (h x (List·Memᴰ·head refl), all-each l (λ y m. h y (List·Memᴰ·tail m)))
+
+  pub pairs-weaken : {R S : A → A → Type 0} → ((x y : A) → R x y → S x y) → (l : List A) → Pairs R l → Pairs S l
+  pairs-weaken f [] h = tt
+  pairs-weaken f (x ∷ l) h = (all-map (f x) l (h .0), pairs-weaken f l (h .1))
+
+module _ {A B : Type 0} (f : A → B) where
+  pub pairs-map : (R : B → B → Type 0) {P : A → Type 0} {Q : A → A → Type 0} → ((x y : A) → P x → P y → Q x y → R (f x) (f y))
+      → (l : List A) → All P l → Pairs Q l → Pairs R (map f l)
+  pairs-map R g [] h q = tt
+  pairs-map R {P} {Q} g (x ∷ l) h q = (mapped l (h .1) (q .0), pairs-map R g l (h .1) (q .1))
+    where
+      mapped : (l : List A) → All P l → All (Q x) l → All (R (f x)) (map f l)
+      mapped [] k c = tt
+      mapped (y ∷ l) k c = (g x y (h .0) (k .0) (c .0), mapped l (k .1) (c .1))
+
+  pub length-map : (l : List A) → length (map f l) ≡ length l
+  length-map [] = refl
+  length-map (x ∷ l) = ap suc (length-map l)
+
+  pub getD-map : (l : List A) (i : ℕ) (d : A) (e : B) → i < length l → getD (map f l) i e ≡ f (getD l i d)
+  getD-map [] i d e h = absurd (omega arith)
+  getD-map (x ∷ l) zero d e h = refl
+  getD-map (x ∷ l) (suc i) d e h = getD-map l i d e (omega arith)
 
 -- ---- one list after another
 

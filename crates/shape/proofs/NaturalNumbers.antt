@@ -3,9 +3,11 @@
 --     natural-tree-size, natural-number-tree      the tree worked out from a number has the size, and has that number
 --     natural-tree-number        a tree is what is worked out from its number
 --     natural-number-rises       the number follows the natural order
+--     natural-lawful             all of it for the tree permutations of one size
 -- Assumes nothing.
 use mathlib.Core.Path.{_≡_, refl, sym, ap, ap₂, _∙_, subst, subst₂}
 use mathlib.Core.Logic.{_⊎_, inl, inr}
+use mathlib.Core.List.{List}
 use Prim.Native.Nat.{ℕ, zero, suc, _+_, _-_, _*_, _/_, _%_, _≤_, _<_}
 use native.Mathlib.Nat.{le-antisymm, mod-lt, div-lt-iff-lt-mul, div-add-mod', le-refl, le-trans, lt-of-lt-of-le, mul-le-mul-right, add-sub-cancel-left, eq-or-lt-of-le}
 use native.Mathlib.Decide.{decLe}
@@ -15,10 +17,13 @@ use borrow.Author.Tests.{le-leb, lt-leb}
 use Rattle.catalan.specs.Count.{C, sum}
 use Rattle.catalan.proofs.Sums.{sum-last, sum-rises}
 use Rattle.catalan.proofs.Counting.{segner, C-positive}
-use Rattle.shape.specs.Tree.{Tree, empty, node, size}
-use Rattle.shape.specs.Order.{Natural}
+use Rattle.shape.specs.Tree.{Tree, empty, node, size, permutation}
+use Rattle.shape.specs.Form.{TreePermutation, permutationTree}
+use Rattle.shape.specs.Order.{Natural, Dictionary}
 use Rattle.shape.specs.Number.{fewerLeft, naturalNumber, leftNodes, numberedTree, naturalTree}
-use Rattle.shape.proofs.Orders.{natural-size}
+use Rattle.shape.specs.Numbering.{Lawful, natural}
+use Rattle.shape.proofs.Permutations.{permutation-formed, permutation-read, permutation-of}
+use Rattle.shape.proofs.Orders.{natural-size, natural-permutation, permutation-natural, positioned}
 
 -- ---- the shapes before those with l nodes on the left
 
@@ -218,3 +223,27 @@ natural-rises e (Natural.right-first {l} {r} {r′} f d) =
 
 pub natural-number-rises : (s t : Tree) → size s ≡ size t → Natural s t → naturalNumber s < naturalNumber t
 natural-number-rises s t e d = natural-rises e d
+
+-- ---- the tree permutations of one size
+
+pub natural-lawful : (n : ℕ) → Lawful (natural n)
+natural-lawful n =
+    record {
+      number-below = λ p f. rw (← permutation-of n p f .1) (natural-number-below (permutationTree p));
+      shape-formed = λ k h. rw (natural-tree-size n k h) at (permutation-formed (naturalTree n k));
+      number-shape = λ k h. ap naturalNumber (permutation-read (naturalTree n k)) ∙ natural-number-tree n k h;
+      shape-number = λ p f.
+          ap permutation (ap (λ (m : ℕ). naturalTree m (naturalNumber (permutationTree p))) (sym (permutation-of n p f .1)) ∙ natural-tree-number (permutationTree p))
+          ∙ permutation-of n p f .0;
+      ordered = λ s t e. (natural-permutation s t e, permutation-natural s t e);
+      position = λ p q f g.
+          positioned (λ p. naturalNumber (permutationTree p)) p q (rises p q f g) (rises q p g f) (f .entries ∙ sym (g .entries));
+    }
+  where
+    rises : (p q : List ℕ) → TreePermutation n p → TreePermutation n q → Dictionary p q
+        → naturalNumber (permutationTree p) < naturalNumber (permutationTree q)
+    rises p q f g d =
+        let (wp, sp) = permutation-of n p f in
+        let (wq, sq) = permutation-of n q g in
+        natural-number-rises (permutationTree p) (permutationTree q) (sp ∙ sym sq)
+        (permutation-natural _ _ (sp ∙ sym sq) (subst₂ Dictionary (sym wp) (sym wq) d))

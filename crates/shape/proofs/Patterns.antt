@@ -6,6 +6,7 @@
 --     pattern-read         the tree is read back from its pattern
 --     pattern-of           a feasible pattern is the pattern of the tree read from it
 --     length-pattern       2n places
+--     patterns-faithful    all of it together: patterns are one to one with trees
 -- Assumes nothing.
 use mathlib.Core.Path.{_≡_, refl, sym, ap, _∙_, subst, subst₂}
 use mathlib.Core.List.{List, [], _∷_, _++_, append-assoc, append-nil}
@@ -14,7 +15,7 @@ use native.Mathlib.Nat.{suc-add, add-suc, add-zero, zero-add, add-assoc, le-refl
 use native.Mathlib.Omega.{arith}
 use lib.ListN.{length, getD, take, drop, length-append}
 use Rattle.shape.specs.Tree.{Tree, empty, node, size, pattern}
-use Rattle.shape.specs.Form.{count, Feasible, forest, joined, patternTree}
+use Rattle.shape.specs.Form.{count, Feasible, forest, joined, patternTree, patterns, Faithful}
 
 pub data Word : ℕ → ℕ → List ℕ → Type 0 where
   done : Word 0 0 []
@@ -146,3 +147,12 @@ pattern-of n p g =
     let same : patternTree p ≡ t = ap patternTree (sym (found .1)) ∙ pattern-read t in
     let whole : pattern (patternTree p) ≡ p = ap pattern same ∙ found .1 in
     (whole, sym (word-ones (pattern-word (patternTree p))) ∙ ap (count 1) whole ∙ g .ones)
+
+pub patterns-faithful : Faithful patterns
+patterns-faithful =
+    record {
+      write-formed = pattern-formed;
+      read-write = pattern-read;
+      write-read = λ n p g. pattern-of n p g .0;
+      read-size = λ n p g. pattern-of n p g .1;
+    }

@@ -3,6 +3,7 @@
 --     permutation-formed     the permutation of a tree is a tree permutation of its size
 --     permutation-read       and its tree is that tree
 --     permutation-of         a tree permutation of size n is the permutation of its tree, which has n nodes
+--     permutations-faithful  all of it together: tree permutations are one to one with trees
 -- Assumes nothing.
 use mathlib.Core.Path.{_≡_, refl, sym, ap, _∙_}
 use mathlib.Core.List.{List, [], _∷_, _++_, append-nil}
@@ -14,7 +15,7 @@ use lib.ListN.{length, length-append}
 use lib.Seq.{take-at, drop-at}
 use borrow.Author.Tests.{lt-ltb, le-ltb}
 use Rattle.shape.specs.Tree.{Tree, empty, node, size, permutation, permutationFrom}
-use Rattle.shape.specs.Form.{below, cutTree, permutationTree, TreePermutation}
+use Rattle.shape.specs.Form.{below, cutTree, permutationTree, TreePermutation, permutations, Faithful}
 use Rattle.shape.proofs.Lists.{All, Pairs, Triples, all-map, all-both, pairs-all, all-cross}
 use Rattle.shape.proofs.Lists.{all-append, pairs-append, triples-append}
 use Rattle.shape.proofs.Lists.{all-left, pairs-left, triples-left, all-right, pairs-right, triples-right}
@@ -255,3 +256,12 @@ unfolding permutation permutationTree
 permutation-of n p f =
     let r = restored (length p) 0 (suc n) p (omega arith) (omega (arith, f .entries)) (labels-formed f) in
     (r .0, r .1 ∙ f .entries)
+
+pub permutations-faithful : Faithful permutations
+permutations-faithful =
+    record {
+      write-formed = permutation-formed;
+      read-write = permutation-read;
+      write-read = λ n p f. permutation-of n p f .0;
+      read-size = λ n p f. permutation-of n p f .1;
+    }
