@@ -7,3 +7,5 @@ pub mod NaturalNumbers
 pub mod Changes
 pub mod Forms
 pub mod Listing
+pub mod Determined
+pub mod Replies

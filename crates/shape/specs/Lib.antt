@@ -3,3 +3,5 @@ pub mod Form
 pub mod Order
 pub mod Number
 pub mod Numbering
+pub mod Reply
+pub mod Determined
