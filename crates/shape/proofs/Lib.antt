@@ -9,3 +9,4 @@ pub mod Forms
 pub mod Listing
 pub mod Determined
 pub mod Replies
+pub mod HandChecked

@@ -5,3 +5,4 @@ pub mod Number
 pub mod Numbering
 pub mod Reply
 pub mod Determined
+pub mod Lines
