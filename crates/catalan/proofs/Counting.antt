@@ -3,7 +3,9 @@
 --     ways-words           the ways to finish are the words for the trees still to come
 --     ways-none            more ones than zeros: no way
 --     ways-step            a 0 or a 1 comes next: ways a b = ways a (b-1) + ways (a-1) b
---     ways-positive, ways-rises-ones, ways-rises-zeros, ways-at-most, ways-fit
+--     ways-positive        there is a way while ones are no more than zeros
+--     ways-rises-ones, ways-rises-zeros, ways-at-most, ways-fit     monotone, at most C(b), and within 64 bits
+--     size-limit           C(36) fits 64 bits and C(37) does not
 --     C-ways, C-words      C(n) = ways n n, the words for one tree of n nodes
 --     words-join           the words for m + k trees are those for m and then those for k: a convolution
 --     segner               C(n+1) = the sum of C(j)·C(n-j) for j ≤ n
@@ -16,8 +18,8 @@ use native.Mathlib.Nat.{mul-le-mul-right, eq-or-lt-of-le, suc-add, add-suc, add-
 use native.Mathlib.Omega.{arith}
 use native.Mathlib.Decide.{decLe}
 use mathlib.Core.Logic.{inl, inr}
-use lib.Dec.{lit<}
-use Rattle.catalan.specs.Count.{C, binom, binomBefore, ways, words, prefixes, sum}
+use lib.Dec.{lit<, lit≤}
+use Rattle.catalan.specs.Count.{C, largestSize, binom, binomBefore, ways, words, prefixes, sum}
 use Rattle.catalan.proofs.Sums.{sum-last, sum-front, sum-plus, sum-cong, conv, conv-sum, conv-plus, conv-none}
 use Rattle.catalan.proofs.Binomials.{binom-next, binom-absorb, binom-pascal, binom-mirror}
 
@@ -136,15 +138,16 @@ ways-at-most a b h = rw C-ways (climb (b - a) a (omega arith))
     climb zero a e = let same : a ≡ b = omega arith in rw same (omega arith)
     climb (suc d) a e = le-trans (ways-rises-ones a b (omega arith)) (climb d (suc a) (omega arith))
 
+pub size-limit : (C (largestSize + 1) < 2 ^ 64) × (2 ^ 64 ≤ C (largestSize + 2))
+unfolding C
+size-limit = (lit< tt, lit≤ tt)
+
 -- every count that is used fits 64 bits, though the binomials need not (`binom-passes-width`)
-pub ways-fit : (a b : ℕ) → b ≤ 35 → ways a b < 2 ^ 64
+pub ways-fit : (a b : ℕ) → b ≤ largestSize → ways a b < 2 ^ 64
 ways-fit a b h = elim (decLe a b) [ yes l ↦ fits l | no g ↦ rw (ways-none a b (omega arith)) (lit< tt) ]
   where
-    largest : C 35 < 2 ^ 64
-    largest = unfold C in lit< tt
-
     fits : a ≤ b → ways a b < 2 ^ 64
-    fits l = omega (arith, largest, ways-at-most a b l, C-rises b 35 h)
+    fits l = omega (arith, size-limit .0, ways-at-most a b l, C-rises b (largestSize + 1) (omega arith))
 
 -- ---- words side by side
 

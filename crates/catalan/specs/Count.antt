@@ -1,5 +1,6 @@
 -- What the bench counts.
 --     C k             the Catalan number
+--     largestSize     the most nodes that a shape on the bench has
 --     binom n k       the binomial coefficient
 --     ways a b        the ways to finish a pattern with a ones and b zeros left to place
 --     words m a       the words that write m trees, a nodes in all, one tree after the other
@@ -12,6 +13,10 @@ use Prim.Native.Nat.{ℕ, zero, suc, _+_, _-_, _*_, _/_}
 unfoldable pub C : ℕ → ℕ
 C zero = 1
 C (suc k) = (4 * k + 2) * C k / (k + 2)
+
+-- "C(37) does not [fit in 64 bits], which is why 35 is the largest size": the figure of size n needs C(n+1).
+abbrev pub largestSize : ℕ
+largestSize = 35
 
 -- Pascal's rule.
 unfoldable pub binom : ℕ → ℕ → ℕ

@@ -79,7 +79,7 @@ pub fn grow(zeros: usize, row: &mut [u64])
 
 // The way back. Downward, since an entry loses what its neighbour still holds of the row of `zeros`.
 pub fn shrink(zeros: usize, row: &mut [u64])
-    requires { ⌜ (0 < zeros) × (zeros ≤ 35) × (now row ≡ rowOf zeros) ⌝ }
+    requires { ⌜ (zeros ≤ 35) × (now row ≡ rowOf zeros) ⌝ }
     ensures { λ _. ⌜ now (row .exit) ≡ rowOf (zeros - 1) ⌝ }
 {
     let mut a = zeros;

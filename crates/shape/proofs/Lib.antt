@@ -10,3 +10,6 @@ pub mod Listing
 pub mod Determined
 pub mod Replies
 pub mod HandChecked
+pub mod Depths
+pub mod Examples
+pub mod Meanings

@@ -1,6 +1,6 @@
 -- The whole list of a numbering, for any size, form and order: each shape of the size is there exactly once, in order.
 --     numbers-rise, numbers-within, numbers-member, numbers-join, length-numbers      so many numbers from one on
---     list-at, length-list     the shape numbered k stands at place k of the list, which has C(n) places
+--     list-at, length-list, length-trees     the shape numbered k stands at place k of the list, which has C(n) places
 --     listed, list-rises       the list holds exactly the well formed lists, in dictionary order
 --     trees-listed, trees-differ, trees-rise     as trees: exactly those of n nodes, no two the same, in the order of trees
 --     position-tree            the shape numbered k stands before t exactly when k is below t's number
@@ -107,6 +107,10 @@ module _ (N : Numbering) (faithful : Faithful (N .form)) (laws : Lawful N) where
   pub length-list : length (listOf N) ≡ total N
   unfolding listOf
   length-list = length-map (N .shape) (numbersFrom 0 (total N)) ∙ length-numbers 0 (total N)
+
+  pub length-trees : length (treesOf N) ≡ total N
+  unfolding treesOf
+  length-trees = length-map (N .form .read) (listOf N) ∙ length-list
 
   pub list-at : (k : ℕ) → k < total N → getD (listOf N) k [] ≡ N .shape k
   unfolding listOf

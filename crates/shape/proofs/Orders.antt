@@ -1,11 +1,9 @@
 -- The orders are total orders, and dictionary order of each form is its order of trees.
---     Comparison              before, the same or after
 --     dictionary-irreflexive, dictionary-asymmetric, dictionary-compare
 --     positioned              a number that follows dictionary order is the position in it
---     local-compare, natural-compare          any two trees stand in order, or are the same
+--     local-total, natural-total              both orders of trees are total
 --     local-pattern, pattern-local            the local order is dictionary order of patterns of one size
 --     natural-permutation, permutation-natural     the natural order is dictionary order of permutations of one size
---     local-irreflexive, local-transitive, natural-irreflexive, natural-transitive
 -- Assumes nothing.
 use mathlib.Core.Path.{_≡_, refl, sym, ap, ap₂, _∙_, subst, subst₂}
 use mathlib.Core.Logic.{_↔_}
@@ -15,14 +13,8 @@ use native.Mathlib.Nat.{lt-irrefl, lt-trans, lt-suc-self, lt-of-lt-of-le, lt-of-
 use native.Mathlib.Omega.{arith}
 use lib.ListN.{length}
 use Rattle.shape.specs.Tree.{Tree, empty, node, size, pattern, permutation, permutationFrom}
-use Rattle.shape.specs.Order.{Local, Natural, Dictionary, differ, agree}
+use Rattle.shape.specs.Order.{Local, Natural, Dictionary, differ, agree, Comparison, before, same, after, TotalOrder}
 use Rattle.shape.proofs.Patterns.{length-pattern}
-
--- x stands before y, is y, or stands after it
-pub data Comparison {A : Type 0} (Before : A → A → Type 0) (x y : A) : Type 0 where
-  before : Before x y → Comparison Before x y
-  same : x ≡ y → Comparison Before x y
-  after : Before y x → Comparison Before x y
 
 compare-numbers : (m n : ℕ) → Comparison _<_ m n
 compare-numbers zero zero = same refl
@@ -105,11 +97,11 @@ reflected compare write kept s t e d =
 
 -- ---- the local order
 
-pub local-irreflexive : {t : Tree} → Local t t → ⊥
+local-irreflexive : {t : Tree} → Local t t → ⊥
 local-irreflexive (Local.left-first d) = local-irreflexive d
 local-irreflexive (Local.right-first d) = local-irreflexive d
 
-pub local-transitive : {s t u : Tree} → Local s t → Local t u → Local s u
+local-transitive : {s t u : Tree} → Local s t → Local t u → Local s u
 local-transitive Local.empty-first (Local.left-first d) = Local.empty-first
 local-transitive Local.empty-first (Local.right-first d) = Local.empty-first
 local-transitive (Local.left-first c) (Local.left-first d) = Local.left-first (local-transitive c d)
@@ -117,7 +109,7 @@ local-transitive (Local.left-first c) (Local.right-first d) = Local.left-first c
 local-transitive (Local.right-first c) (Local.left-first d) = Local.left-first d
 local-transitive (Local.right-first c) (Local.right-first d) = Local.right-first (local-transitive c d)
 
-pub local-compare : (s t : Tree) → Comparison Local s t
+local-compare : (s t : Tree) → Comparison Local s t
 local-compare empty empty = same refl
 local-compare empty (node l r) = before Local.empty-first
 local-compare (node l r) empty = after Local.empty-first
@@ -132,6 +124,9 @@ local-compare (node l r) (node l′ r′) = decide (local-compare l l′) (local
     decide (before d) c = before (Local.left-first d)
     decide (same e) c = subst (λ (x : Tree). Comparison Local (node l r) (node x r′)) e (rest c)
     decide (after d) c = after (Local.left-first d)
+
+pub local-total : TotalOrder Local
+local-total = record { irreflexive = λ t. local-irreflexive; transitive = λ s t u. local-transitive; compare = local-compare }
 
 -- the patterns of two trees of any sizes, each with its dropped 0 and whatever follows
 laid-before : {s t : Tree} → Local s t → (u v : List ℕ) → Dictionary (pattern s ++ 0 ∷ u) (pattern t ++ 0 ∷ v)
@@ -158,12 +153,12 @@ natural-size (Natural.smaller-first h) = omega arith
 natural-size (Natural.left-first e d) = omega arith
 natural-size (Natural.right-first e d) = omega arith
 
-pub natural-irreflexive : {t : Tree} → Natural t t → ⊥
+natural-irreflexive : {t : Tree} → Natural t t → ⊥
 natural-irreflexive (Natural.smaller-first {s} h) = lt-irrefl (size s) h
 natural-irreflexive (Natural.left-first e d) = natural-irreflexive d
 natural-irreflexive (Natural.right-first e d) = natural-irreflexive d
 
-pub natural-transitive : {s t u : Tree} → Natural s t → Natural t u → Natural s u
+natural-transitive : {s t u : Tree} → Natural s t → Natural t u → Natural s u
 natural-transitive (Natural.smaller-first h) d = Natural.smaller-first (lt-of-lt-of-le h (natural-size d))
 natural-transitive (Natural.left-first e c) (Natural.smaller-first h) = Natural.smaller-first (lt-of-le-of-lt (le-of-eq e) h)
 natural-transitive (Natural.left-first e c) (Natural.left-first f d) = Natural.left-first (e ∙ f) (natural-transitive c d)
@@ -176,7 +171,7 @@ empty-smaller : (l r : Tree) → size empty < size (node l r)
 unfolding size
 empty-smaller l r = omega arith
 
-pub natural-compare : (s t : Tree) → Comparison Natural s t
+natural-compare : (s t : Tree) → Comparison Natural s t
 natural-compare empty empty = same refl
 natural-compare empty (node l r) = before (Natural.smaller-first (empty-smaller l r))
 natural-compare (node l r) empty = after (Natural.smaller-first (empty-smaller l r))
@@ -201,6 +196,9 @@ natural-compare (node l r) (node l′ r′) =
     decide (before h) b c = before (Natural.smaller-first h)
     decide (same e) b c = left e b c
     decide (after h) b c = after (Natural.smaller-first h)
+
+pub natural-total : TotalOrder Natural
+natural-total = record { irreflexive = λ t. natural-irreflexive; transitive = λ s t u. natural-transitive; compare = natural-compare }
 
 -- the labels may begin after any number
 natural-from : {s t : Tree} → size s ≡ size t → Natural s t → (base : ℕ) → Dictionary (permutationFrom base s) (permutationFrom base t)

@@ -2,6 +2,7 @@
 --     Local          "Local (001, definition 2)"
 --     Natural        "Natural (004)", which is 001's definition 1
 --     Dictionary     dictionary order of lists of one length
+--     TotalOrder     of any two things one stands before the other, or they are the same
 -- Assumes nothing.
 use mathlib.Core.Path.{_≡_}
 use mathlib.Core.List.{List, _∷_}
@@ -28,3 +29,14 @@ pub data Natural : Tree → Tree → Type 0 where
 pub data Dictionary : List ℕ → List ℕ → Type 0 where
   differ : {x y : ℕ} {p q : List ℕ} → x < y → Dictionary (x ∷ p) (y ∷ q)
   agree : {x : ℕ} {p q : List ℕ} → Dictionary p q → Dictionary (x ∷ p) (x ∷ q)
+
+-- x stands before y, is y, or stands after it
+pub data Comparison {A : Type 0} (Before : A → A → Type 0) (x y : A) : Type 0 where
+  before : Before x y → Comparison Before x y
+  same : x ≡ y → Comparison Before x y
+  after : Before y x → Comparison Before x y
+
+pub record TotalOrder {A : Type 0} (Before : A → A → Type 0) : Type 0 where
+  pub irreflexive : (x : A) → Before x x → ⊥
+  pub transitive : (x y z : A) → Before x y → Before y z → Before x z
+  pub compare : (x y : A) → Comparison Before x y
