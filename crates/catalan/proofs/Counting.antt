@@ -65,6 +65,9 @@ ways-words a b (suc m) e = unfold ways in omega (arith, words-binom a m (a + b) 
 ways-words (suc a) b zero e = ways-none (suc a) b (omega arith) ∙ unfold words in refl
 ways-words zero b zero e = absurd (omega arith)
 
+ways-no-ones : (b : ℕ) → ways 0 b ≡ 1
+ways-no-ones b = ways-words 0 b (suc b) (omega arith) ∙ words-one (suc b)
+
 pub ways-step : (a b : ℕ) → a ≤ b → ways (suc a) (suc b) ≡ ways (suc a) b + ways a (suc b)
 ways-step a b h =
     let m = b - a in
@@ -72,7 +75,7 @@ ways-step a b h =
     (words-step m a)
 
 pub ways-positive : (a b : ℕ) → a ≤ b → 0 < ways a b
-ways-positive zero b h = rw (ways-words 0 b (suc b) (omega arith), words-one) (omega arith)
+ways-positive zero b h = omega (arith, ways-no-ones b)
 ways-positive (suc a) zero h = absurd (omega arith)
 ways-positive (suc a) (suc b) h = rw (ways-step a b (omega arith)) (omega (arith, ways-positive a (suc b) (omega arith)))
 
@@ -81,7 +84,7 @@ ways-rises-ones a zero h = absurd (omega arith)
 ways-rises-ones a (suc b) h = omega (arith, ways-step a b (omega arith))
 
 pub ways-rises-zeros : (a b : ℕ) → a ≤ b → ways a b ≤ ways a (suc b)
-ways-rises-zeros zero b h = rw (ways-words 0 b (suc b) (omega arith), ways-words 0 (suc b) (suc (suc b)) (omega arith), words-one, words-one) (omega arith)
+ways-rises-zeros zero b h = omega (arith, ways-no-ones b, ways-no-ones (suc b))
 ways-rises-zeros (suc a) b h = omega (arith, ways-step a b (omega arith))
 
 -- ---- the Catalan numbers
@@ -163,13 +166,13 @@ words-join (suc a) zero k = rw zero-add (sym (conv-no-tree k (suc a)))
 words-join (suc a) (suc m) k =
     let one-more = rw (suc-add (suc m) k, suc-add m k) at (words-join a (suc (suc m)) k) in
     rw (suc-add m k, words-step)
-    (omega (arith, one-more, words-join (suc a) m k, conv-step m k a, conv-first m k a))
+    (omega (arith, one-more, words-join (suc a) m k, conv-first (suc m), conv-step, conv-first m))
   where
-    conv-first : (m k a : ℕ) → conv (words m) (words k) (suc a) ≡ words k (suc a) + conv (λ j. words m (suc j)) (words k) a
-    conv-first m k a = unfold conv in omega (arith, ap (λ (z : ℕ). z * words k (suc a)) (words-one m))
+    conv-first : (m : ℕ) → conv (words m) (words k) (suc a) ≡ words k (suc a) + conv (λ j. words m (suc j)) (words k) a
+    conv-first m = unfold conv in omega (arith, ap (λ (z : ℕ). z * words k (suc a)) (words-one m))
 
-    conv-step : (m k a : ℕ) → conv (words (suc m)) (words k) (suc a) ≡ words k (suc a) + (conv (λ j. words m (suc j)) (words k) a + conv (words (suc (suc m))) (words k) a)
-    conv-step m k a = conv-first (suc m) k a ∙ ap (λ (z : ℕ). words k (suc a) + z) (unfold words in conv-plus (λ j. words m (suc j)) (words (suc (suc m))) (words k) a)
+    conv-step : conv (λ j. words (suc m) (suc j)) (words k) a ≡ conv (λ j. words m (suc j)) (words k) a + conv (words (suc (suc m))) (words k) a
+    conv-step = unfold words in conv-plus (λ j. words m (suc j)) (words (suc (suc m))) (words k) a
 
 pub segner : (n : ℕ) → C (suc n) ≡ sum (suc n) (λ j. C j * C (n - j))
 segner n =
@@ -180,6 +183,10 @@ segner n =
     ∙ sum-cong (suc n) _ _ (λ j l. rw (C-words j, C-words (n - j)))
 
 -- ---- prefixes
+
+pub prefixes-step : (m a : ℕ) → prefixes (suc m) (suc a) ≡ suc (prefixes m (suc a) + prefixes (suc (suc m)) a)
+unfolding prefixes
+prefixes-step m a = refl
 
 prefixes-no-tree : (a : ℕ) → prefixes 0 a ≡ 0
 unfolding prefixes
@@ -197,11 +204,11 @@ prefixes-words (suc a) zero =
     rw sum-last (omega (arith, prefixes-words a 0, prefixes-no-tree a, prefixes-no-tree (suc a)))
 prefixes-words (suc a) (suc m) =
     let k = suc (suc a) in
-    let step : prefixes (suc m) (suc a) ≡ suc (prefixes m (suc a) + prefixes (suc (suc m)) a) = unfold prefixes in refl in
-    let terms : sum k (λ j. words (suc m) (suc j)) ≡ sum k (λ j. words m (suc j)) + sum k (words (suc (suc m)))
-          = unfold words in sum-plus k (λ j. words m (suc j)) (words (suc (suc m))) in
-    rw sum-front
+    rw (sum-front, prefixes-step, terms k)
     (omega (arith, prefixes-words (suc a) m, prefixes-words a (suc (suc m)), sum-front k (words m), words-one m, words-one (suc m)))
+  where
+    terms : (k : ℕ) → sum k (λ j. words (suc m) (suc j)) ≡ sum k (λ j. words m (suc j)) + sum k (words (suc (suc m)))
+    terms k = unfold words in sum-plus k (λ j. words m (suc j)) (words (suc (suc m)))
 
 -- point 3's total is this less the empty prefix
 pub prefixes-total : (n : ℕ) → prefixes 1 n ≡ sum (suc n) (λ k. C (suc k))

@@ -58,11 +58,11 @@ pub conv-sum : (f g : ℕ → ℕ) (a : ℕ) → conv f g a ≡ sum (suc a) (λ 
 unfolding conv sum
 conv-sum f g zero = omega arith
 conv-sum f g (suc a) =
-    let rest : sum (suc a) (λ j. f (suc j) * g (a - j)) ≡ sum (suc a) (λ j. f (suc j) * g (suc a - suc j))
-          = sum-cong (suc a) (λ j. f (suc j) * g (a - j)) (λ j. f (suc j) * g (suc a - suc j)) (λ j l. ap (λ (z : ℕ). f (suc j) * g z) (sym (suc-sub-suc a j))) in
-    let whole = sum-front (suc a) (λ j. f j * g (suc a - j)) in
     let first : f 0 * g (suc a - 0) ≡ f 0 * g (suc a) = ap (λ (z : ℕ). f 0 * g z) (sub-zero (suc a)) in
-    omega (arith, conv-sum (λ j. f (suc j)) g a)
+    omega (arith, sum-front (suc a) (λ j. f j * g (suc a - j)), rest, conv-sum (λ j. f (suc j)) g a)
+  where
+    rest : sum (suc a) (λ j. f (suc j) * g (a - j)) ≡ sum (suc a) (λ j. f (suc j) * g (suc a - suc j))
+    rest = sum-cong (suc a) _ _ (λ j l. ap (λ (z : ℕ). f (suc j) * g z) (sym (suc-sub-suc a j)))
 
 pub conv-plus : (f f′ g : ℕ → ℕ) (a : ℕ) → conv (λ j. f j + f′ j) g a ≡ conv f g a + conv f′ g a
 unfolding conv

@@ -15,7 +15,7 @@ use lib.ListN.{length, getD, take, drop, length-drop}
 use borrow.Author.Tests.{eq-eqb, ne-eqb}
 use Rattle.catalan.specs.Count.{C, ways, words, prefixes, sum}
 use Rattle.catalan.proofs.Sums.{sum-front, sum-cong, sum-split}
-use Rattle.catalan.proofs.Counting.{ways-words, words-one, words-step, C-words, prefixes-total}
+use Rattle.catalan.proofs.Counting.{ways-words, words-one, words-step, C-words, prefixes-step, prefixes-total}
 use Rattle.shape.specs.Order.{Dictionary, differ, agree}
 use Rattle.shape.specs.Number.{localPlaces, localPattern, firstDifference, change}
 use Rattle.shape.specs.Numbering.{Numbering, local}
@@ -41,9 +41,11 @@ difference-later x p q = rw (eq-eqb x x refl)
 pub first-difference : {p q : List ℕ} → Dictionary p q → (i : ℕ) × (firstDifference p q ≡ suc i) × DifferAt p q i
 first-difference (differ {x} {y} {p} {q} h) = (0, difference-here x y p q h, record { within = omega arith; agrees = refl; differs = h })
 first-difference (agree {x} {p} {q} d) =
-    let r = first-difference d in
-    (suc (r .0), difference-later x p q ∙ ap suc (r .1),
-    record { within = omega (arith, r .2 .within); agrees = ap {B = List ℕ} (λ w. x ∷ w) (r .2 .agrees); differs = r .2 .differs })
+    let r = first-difference d in (
+      suc (r .0),
+      difference-later x p q ∙ ap suc (r .1),
+      record { within = omega (arith, r .2 .within); agrees = ap {B = List ℕ} (λ w. x ∷ w) (r .2 .agrees); differs = r .2 .differs },
+    )
 
 -- ---- one change
 
@@ -89,26 +91,25 @@ placesChange i a b (suc k) = i - firstDifference (localPlaces i a b k) (localPla
 shared-place : (x i : ℕ) (p q : List ℕ) → suc i - firstDifference (x ∷ p) (x ∷ q) + 1 ≡ i - firstDifference p q + 1
 shared-place x i p q = rw difference-later (omega arith)
 
-module _ (i a b : ℕ) where
-  zero-change : (k : ℕ) → suc k < ways a (b - 1) → placesChange (suc i) a b (suc k) ≡ placesChange i a (b - 1) (suc k)
+-- v of the patterns have a 0 next
+module _ (i a b v : ℕ) (q : ways (suc a) (b - 1) ≡ v) where
+  zero-change : (k : ℕ) → suc k < v → placesChange (suc i) (suc a) b (suc k) ≡ placesChange i (suc a) (b - 1) (suc k)
   unfolding placesChange
-  zero-change k h = rw (next-zero i a b k (omega arith), next-zero i a b (suc k) h) (shared-place 0 i _ _)
+  zero-change k h = rw (next-zero i (suc a) b k (omega arith), next-zero i (suc a) b (suc k) (omega arith)) (shared-place 0 i _ _)
 
-  one-place : (j : ℕ) → localPlaces (suc i) a b (ways a (b - 1) + j) ≡ 1 ∷ localPlaces i (a - 1) b j
-  one-place j =
-      next-one i a b (ways a (b - 1) + j) (omega arith)
-      ∙ ap {B = List ℕ} (λ (k : ℕ). 1 ∷ localPlaces i (a - 1) b k) (add-sub-cancel-left (ways a (b - 1)) j)
+  one-place : (j : ℕ) → localPlaces (suc i) (suc a) b (v + j) ≡ 1 ∷ localPlaces i a b j
+  one-place j = next-one i a b (v + j) v q (omega arith) ∙ ap {B = List ℕ} (λ (k : ℕ). 1 ∷ localPlaces i a b k) (add-sub-cancel-left v j)
 
-  one-change : (j : ℕ) → placesChange (suc i) a b (suc (ways a (b - 1) + j)) ≡ placesChange i (a - 1) b (suc j)
+  one-change : (j : ℕ) → placesChange (suc i) (suc a) b (suc (v + j)) ≡ placesChange i a b (suc j)
   unfolding placesChange
-  one-change j = rw (← add-suc (ways a (b - 1)) j, one-place j, one-place (suc j)) (shared-place 1 i _ _)
+  one-change j = rw (← add-suc v j, one-place j, one-place (suc j)) (shared-place 1 i _ _)
 
-  -- the first pattern with a 1 here differs here from the last with a 0
-  first-one-change : (v : ℕ) → ways a (b - 1) ≡ v → placesChange (suc i) a b v ≡ suc i
-  unfolding placesChange
-  first-one-change zero e = refl
-  first-one-change (suc v) e =
-      rw (next-zero i a b v (omega arith), next-one i a b (suc v) (omega arith), difference-here 0 1 _ _ (omega arith)) (omega arith)
+-- the first pattern with a 1 here differs here from the last with a 0
+first-one-change : (i a b v : ℕ) → ways (suc a) (b - 1) ≡ v → placesChange (suc i) (suc a) b v ≡ suc i
+unfolding placesChange
+first-one-change i a b zero q = refl
+first-one-change i a b (suc v) q =
+    rw (next-zero i (suc a) b v (omega arith), next-one i a b (suc v) (suc v) q (omega arith), difference-here 0 1 _ _ (omega arith)) (omega arith)
 
 -- a place put before the n patterns of a block is one change more, at the first of them
 sum-block : (n : ℕ) (f g : ℕ → ℕ) → 0 < n → f 0 ≡ suc (g 0) → ((k : ℕ) → suc k < n → f (suc k) ≡ g (suc k)) → sum n f ≡ suc (sum n g)
@@ -128,30 +129,28 @@ module _ (i : ℕ) (rest : Counted i) where
   zeros-counted : (e a b : ℕ) → e + suc a ≡ b → suc a + b ≡ suc i → sum (words e (suc a)) (placesChange (suc i) (suc a) b) ≡ prefixes e (suc a)
   zeros-counted zero a b hb hi = unfold words prefixes sum in refl
   zeros-counted (suc e) a b hb hi =
-      let v = ways-words (suc a) (b - 1) (suc e) (omega arith) in
-      sum-block (words (suc e) (suc a)) (placesChange (suc i) (suc a) b) (placesChange i (suc a) (b - 1)) (words-positive (suc a) e)
+      let v = words (suc e) (suc a) in
+      let q = ways-words (suc a) (b - 1) (suc e) (omega arith) in
+      sum-block v (placesChange (suc i) (suc a) b) (placesChange i (suc a) (b - 1)) (words-positive (suc a) e)
       (unfold placesChange in refl)
-      (λ k h. zero-change i (suc a) b k (omega arith))
+      (λ k h. zero-change i a b v q k h)
       ∙ rest e (suc a) (b - 1) (omega arith) (omega arith)
 
   ones-counted : (e a b : ℕ) → e + suc a ≡ b → suc a + b ≡ suc i
       → sum (words (suc (suc e)) a) (λ j. placesChange (suc i) (suc a) b (words e (suc a) + j)) ≡ prefixes (suc (suc e)) a
   ones-counted e a b hb hi =
-      let v = ways-words (suc a) (b - 1) e (omega arith) in
-      let fewer : suc a - 1 ≡ a = omega arith in
-      let first : placesChange (suc i) (suc a) b (words e (suc a) + 0) ≡ suc i
-            = rw (add-zero, ← v) (first-one-change i (suc a) b (ways (suc a) (b - 1)) refl) in
-      sum-block (words (suc (suc e)) a) (λ j. placesChange (suc i) (suc a) b (words e (suc a) + j)) (placesChange i a b) (words-positive a (suc e))
-      (first ∙ unfold placesChange in refl)
-      (λ j h. rw (add-suc, ← v) (one-change i (suc a) b j ∙ ap (λ (x : ℕ). placesChange i x b (suc j)) fewer))
+      let v = words e (suc a) in
+      let q = ways-words (suc a) (b - 1) e (omega arith) in
+      sum-block (words (suc (suc e)) a) (λ j. placesChange (suc i) (suc a) b (v + j)) (placesChange i a b) (words-positive a (suc e))
+      (rw add-zero (first-one-change i a b v q ∙ unfold placesChange in refl))
+      (λ j h. rw add-suc (one-change i a b v q j))
       ∙ rest (suc e) a b (omega arith) (omega arith)
 
   place-counted : (e a b : ℕ) → e + a ≡ b → a + b ≡ suc i → suc (sum (words (suc e) a) (placesChange (suc i) a b)) ≡ prefixes (suc e) a
   place-counted e zero b hb hi = unfold words prefixes sum placesChange in omega arith
   place-counted e (suc a) b hb hi =
-      let step : prefixes (suc e) (suc a) ≡ suc (prefixes e (suc a) + prefixes (suc (suc e)) a) = unfold prefixes in refl in
       rw (words-step, sum-split)
-      (omega (arith, step, zeros-counted e a b hb hi, ones-counted e a b hb hi))
+      (omega (arith, prefixes-step e a, zeros-counted e a b hb hi, ones-counted e a b hb hi))
 
 changes-prefixes : (i : ℕ) → Counted i
 changes-prefixes zero e zero b hb hi = unfold words prefixes sum placesChange in omega arith

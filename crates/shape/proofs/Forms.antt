@@ -11,9 +11,10 @@ use Rattle.shape.specs.Form.{Form, Faithful}
 
 module _ (F : Form) (faithful : Faithful F) where
   pub written : (n : ℕ) (p : List ℕ) → F .WellFormed n p ↔ ((t : Tree) × (size t ≡ n) × (F .write t ≡ p))
-  written n p =
-      (λ g. (F .read p, faithful .read-size n p g, faithful .write-read n p g),
-      λ (t, e, w). subst₂ (F .WellFormed) e w (faithful .write-formed t))
+  written n p = (
+    λ g. (F .read p, faithful .read-size n p g, faithful .write-read n p g),
+    λ (t, e, w). subst₂ (F .WellFormed) e w (faithful .write-formed t),
+  )
 
   pub write-injective : (s t : Tree) → F .write s ≡ F .write t → s ≡ t
   write-injective s t e = sym (faithful .read-write s) ∙ ap (F .read) e ∙ faithful .read-write t

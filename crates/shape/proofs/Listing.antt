@@ -69,10 +69,11 @@ module _ (N : Numbering) (faithful : Faithful (N .form)) (laws : Lawful N) where
 
   pub listed : (p : List ℕ) → WellFormed N p ↔ List·Memᴰ p (listOf N)
   unfolding listOf
-  listed p =
-      (λ g. Memᴰ·cast (sym (laws .shape-number p g)) (Memᴰ·map (N .shape) (numbers-hold 0 (total N) (N .number p) (omega arith) (omega (arith, laws .number-below p g)))),
-      λ m. let (k, h, e) = Memᴰ·of-map (N .shape) (numbersFrom 0 (total N)) m in
-        subst (WellFormed N) e (laws .shape-formed k (all-member (λ j. j < total N) (numbersFrom 0 (total N)) numbers-below h)))
+  listed p = (
+    λ g. Memᴰ·cast (sym (laws .shape-number p g)) (Memᴰ·map (N .shape) (numbers-hold 0 (total N) (N .number p) (omega arith) (omega (arith, laws .number-below p g)))),
+    λ m. let (k, h, e) = Memᴰ·of-map (N .shape) (numbersFrom 0 (total N)) m in
+        subst (WellFormed N) e (laws .shape-formed k (all-member (λ j. j < total N) (numbersFrom 0 (total N)) numbers-below h)),
+  )
 
   pub list-rises : Pairs Dictionary (listOf N)
   unfolding listOf
@@ -99,10 +100,11 @@ module _ (N : Numbering) (faithful : Faithful (N .form)) (laws : Lawful N) where
 
   pub trees-listed : (t : Tree) → (size t ≡ N .nodes) ↔ List·Memᴰ t (treesOf N)
   unfolding treesOf
-  trees-listed t =
-      (λ e. Memᴰ·cast (sym (faithful .read-write t)) (Memᴰ·map (N .form .read) (listed (N .form .write t) .0 (tree-formed t e))),
-      λ m. let (p, h, e) = Memᴰ·of-map (N .form .read) (listOf N) m in
-        ap size (sym e) ∙ faithful .read-size (N .nodes) p (listed p .1 h))
+  trees-listed t = (
+    λ e. Memᴰ·cast (sym (faithful .read-write t)) (Memᴰ·map (N .form .read) (listed (N .form .write t) .0 (tree-formed t e))),
+    λ m. let (p, h, e) = Memᴰ·of-map (N .form .read) (listOf N) m in
+        ap size (sym e) ∙ faithful .read-size (N .nodes) p (listed p .1 h),
+  )
 
   pub length-list : length (listOf N) ≡ total N
   unfolding listOf
@@ -126,9 +128,10 @@ module _ (N : Numbering) (faithful : Faithful (N .form)) (laws : Lawful N) where
       let by-number = laws .position p q formed (tree-formed t e) in
       let by-form = laws .ordered (N .form .read p) t (faithful .read-size _ p formed ∙ sym e) in
       let again = faithful .write-read _ p formed in
-      let number = laws .number-shape k h in
-      (λ b. omega (arith, by-number .0 (subst (λ (w : List ℕ). Dictionary w q) again (by-form .0 b))),
-      λ l. by-form .1 (subst⁻¹ (λ (w : List ℕ). Dictionary w q) again (by-number .1 (omega arith))))
+      let number = laws .number-shape k h in (
+        λ b. omega (arith, by-number .0 (subst (λ (w : List ℕ). Dictionary w q) again (by-form .0 b))),
+        λ l. by-form .1 (subst⁻¹ (λ (w : List ℕ). Dictionary w q) again (by-number .1 (omega arith))),
+      )
 
 -- ---- steps
 

@@ -1,6 +1,7 @@
 -- Numbers in the local order: the number is the position.
 --     word-number-below       a word's number is below the number of words
---     places-word, places-number      the places worked out from a number are a word, and have that number
+--     next-zero, next-one     the next place worked out from a number
+--     places-numbered         the places worked out from a number are a word with that number
 --     number-places           a word is what is worked out from its number
 --     number-rises            the number follows dictionary order
 --     local-lawful            all of it for the patterns of one size
@@ -50,16 +51,18 @@ pub next-zero : (i a b k : ℕ) → k < ways a (b - 1) → localPlaces (suc i) a
 unfolding localPlaces
 next-zero i a b k h = rw (lt-ltb k (ways a (b - 1)) h)
 
-pub next-one : (i a b k : ℕ) → ways a (b - 1) ≤ k → localPlaces (suc i) a b k ≡ 1 ∷ localPlaces i (a - 1) b (k - ways a (b - 1))
+pub next-one : (i a b k v : ℕ) → ways (suc a) (b - 1) ≡ v → v ≤ k → localPlaces (suc i) (suc a) b k ≡ 1 ∷ localPlaces i a b (k - v)
 unfolding localPlaces
-next-one i a b k h = rw (le-ltb k (ways a (b - 1)) h)
+next-one i a b k v q h =
+    let fewer : suc a - 1 ≡ a = omega arith in
+    rw (q, le-ltb k v h, fewer)
 
 -- w is a word with the number k
-abbrev Numbered : ℕ → ℕ → ℕ → List ℕ → Type 0
+abbrev pub Numbered : ℕ → ℕ → ℕ → List ℕ → Type 0
 Numbered e a k w = Word e a w × (localNumber w ≡ k)
 
 -- the places worked out from k, with a ones and e + a zeros left, are such a word
-abbrev Placed : ℕ → Type 0
+abbrev pub Placed : ℕ → Type 0
 Placed i = (e a b k : ℕ) → e + a ≡ b → a + b ≡ i → k < words (suc e) a → Numbered e a k (localPlaces i a b k)
 
 module _ (i : ℕ) (rest : Placed i) where
@@ -74,12 +77,8 @@ module _ (i : ℕ) (rest : Placed i) where
       → Numbered e a k (localPlaces (suc i) a b k)
   placed-one e zero b k hb hi q h l = absurd (omega (arith, words-one e, words-one (suc e)))
   placed-one e (suc a) b k hb hi q h l =
-      let k′ = k - words e (suc a) in
-      let r = rest (suc e) a b k′ (omega arith) (omega arith) (omega (arith, words-step e a)) in
-      let fewer : suc a - 1 ≡ a = omega arith in
-      let same : localPlaces (suc i) (suc a) b k ≡ 1 ∷ localPlaces i a b k′
-            = next-one i (suc a) b k (omega arith) ∙ ap₂ {C = List ℕ} (λ (x v : ℕ). 1 ∷ localPlaces i x b (k - v)) fewer q in
-      subst (Numbered e (suc a) k) (sym same) (one-next (r .0), number-one (r .0) ∙ omega (arith, r .1))
+      let r = rest (suc e) a b (k - words e (suc a)) (omega arith) (omega arith) (omega (arith, words-step e a)) in
+      subst (Numbered e (suc a) k) (sym (next-one i a b k (words e (suc a)) q h)) (one-next (r .0), number-one (r .0) ∙ omega (arith, r .1))
 
 placed-none : Placed 0
 unfolding localPlaces localNumber
@@ -89,7 +88,7 @@ placed-none e a b k hb hi hk =
     let first : 0 ≡ k = omega (arith, ap (words (suc e)) (sym none), words-one (suc e)) in
     (subst₂ (λ (e a : ℕ). Word e a []) even none done, first)
 
-places-numbered : (i : ℕ) → Placed i
+pub places-numbered : (i : ℕ) → Placed i
 places-numbered zero e a b k hb hi hk = placed-none e a b k hb hi hk
 places-numbered (suc i) e a b k hb hi hk = decide (decLt k (words e a)) (places-numbered i)
   where
@@ -111,11 +110,9 @@ number-places (zero-next {e} {a} {w} r) (suc i) b hb hi =
     ∙ ap {B = List ℕ} (λ v. 0 ∷ v) (number-places r i (b - 1) (omega arith) (omega arith)))
 number-places (one-next r) zero b hb hi = absurd (omega arith)
 number-places (one-next {e} {a} {w} r) (suc i) b hb hi =
-    let q = ways-words (suc a) (b - 1) e (omega arith) in
-    let fewer : suc a - 1 ≡ a = omega arith in
-    let left : localNumber (1 ∷ w) - ways (suc a) (b - 1) ≡ localNumber w = omega (arith, number-one r) in
-    next-one i (suc a) b (localNumber (1 ∷ w)) (omega (arith, number-one r))
-    ∙ ap₂ {C = List ℕ} (λ (x k : ℕ). 1 ∷ localPlaces i x b k) fewer left
+    let left : localNumber (1 ∷ w) - words e (suc a) ≡ localNumber w = omega (arith, number-one r) in
+    next-one i a b (localNumber (1 ∷ w)) (words e (suc a)) (ways-words (suc a) (b - 1) e (omega arith)) (omega (arith, number-one r))
+    ∙ ap {B = List ℕ} (λ (k : ℕ). 1 ∷ localPlaces i a b k) left
     ∙ ap {B = List ℕ} (λ v. 1 ∷ v) (number-places r i b (omega arith) (omega arith))
 
 -- ---- order
@@ -141,7 +138,7 @@ local-lawful n =
       position = λ p q g h.
           let v = feasible-word g in
           let w = feasible-word h in
-          positioned localNumber p q (number-rises v w) (number-rises w v) (word-length v ∙ sym (word-length w))
+          positioned localNumber p q (number-rises v w) (number-rises w v) (word-length v ∙ sym (word-length w));
     }
   where
     placed : (k : ℕ) → k < C n → Numbered 0 n k (localPattern n k)

@@ -181,33 +181,36 @@ natural-tree-number t = tree-again t (size t) (le-refl (size t))
 -- fewer nodes on the left, of as many in all
 fewer-before : (l r l′ r′ : Tree) → size l + size r ≡ size l′ + size r′ → size l < size l′ → naturalNumber (node l r) < naturalNumber (node l′ r′)
 fewer-before l r l′ r′ e h =
-    omega
-    (arith,
-    node-has-left l r (natural-number-below l) (natural-number-below r) .to,
-    fewer-rises (size l + size r) h,
-    ap (λ (m : ℕ). fewerLeft m (size l′)) e,
-    node-number l′ r′)
+    omega (
+      arith,
+      node-has-left l r (natural-number-below l) (natural-number-below r) .to,
+      fewer-rises (size l + size r) h,
+      ap (λ (m : ℕ). fewerLeft m (size l′)) e,
+      node-number l′ r′,
+    )
 
 -- as many on the left: the left's number, then the right's, as two digits of one base
 left-before : (l r l′ r′ : Tree) → size l ≡ size l′ → size r ≡ size r′ → naturalNumber l < naturalNumber l′
     → naturalNumber (node l r) < naturalNumber (node l′ r′)
 left-before l r l′ r′ el er h =
-    omega
-    (arith,
-    node-number l r,
-    node-number l′ r′,
-    ap₂ (λ (x y : ℕ). fewerLeft (x + y) x) el er,
-    digits-lt h (natural-number-below r),
-    ap (λ (y : ℕ). naturalNumber l′ * C y) er)
+    omega (
+      arith,
+      node-number l r,
+      node-number l′ r′,
+      ap₂ (λ (x y : ℕ). fewerLeft (x + y) x) el er,
+      digits-lt h (natural-number-below r),
+      ap (λ (y : ℕ). naturalNumber l′ * C y) er,
+    )
 
 right-before : (l r r′ : Tree) → size r ≡ size r′ → naturalNumber r < naturalNumber r′ → naturalNumber (node l r) < naturalNumber (node l r′)
 right-before l r r′ er h =
-    omega
-    (arith,
-    node-number l r,
-    node-number l r′,
-    ap (λ (y : ℕ). fewerLeft (size l + y) (size l)) er,
-    ap (λ (y : ℕ). naturalNumber l * C y) er)
+    omega (
+      arith,
+      node-number l r,
+      node-number l r′,
+      ap (λ (y : ℕ). fewerLeft (size l + y) (size l)) er,
+      ap (λ (y : ℕ). naturalNumber l * C y) er,
+    )
 
 natural-rises : {s t : Tree} → size s ≡ size t → Natural s t → naturalNumber s < naturalNumber t
 natural-rises e (Natural.smaller-first h) = absurd (omega arith)

@@ -63,7 +63,7 @@ word-feasible {n} {p} r =
       places = word-places r;
       ones = word-ones r;
       zeros = omega (arith, word-zeros r);
-      prefix = λ i. omega (arith, word-prefix r i)
+      prefix = λ i. omega (arith, word-prefix r i);
     }
 
 -- the facts of `Feasible`, after a prefix with e more ones than zeros

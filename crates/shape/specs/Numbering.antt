@@ -34,7 +34,7 @@ natural n =
       nodes = n;
       Before = Natural;
       number = λ p. naturalNumber (permutationTree p);
-      shape = λ k. permutation (naturalTree n k)
+      shape = λ k. permutation (naturalTree n k);
     }
 
 abbrev pub total : Numbering → ℕ
