@@ -4,8 +4,8 @@
 --     binom-pascal    binom(n+1, k) = binom(n, k-1) + binom(n, k), for k = 0 too
 --     binom-mirror    binom(a+b, a) = binom(a+b, b)
 -- Assumes nothing.
-use mathlib.Core.Path.{_≡_, refl, sym, ap, _∙_}
-use Prim.Native.Nat.{ℕ, zero, suc, _+_, _-_, _*_, _≤_, _<_, _^_}
+use mathlib.Core.Path.{_≡_, refl}
+use Prim.Native.Nat.{ℕ, zero, suc, _+_, _*_, _≤_, _^_}
 use native.Mathlib.Nat.{suc-add, add-suc, add-zero, zero-add}
 use native.Mathlib.Omega.{arith}
 use lib.Dec.{lit≤}

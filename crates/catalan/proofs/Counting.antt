@@ -13,8 +13,9 @@
 --     prefixes-total       C(1) + .. + C(n+1), the prefixes of the patterns of size n, the empty one included
 -- Assumes nothing.
 use mathlib.Core.Path.{_≡_, refl, sym, ap, _∙_, subst}
-use Prim.Native.Nat.{ℕ, zero, suc, _+_, _-_, _*_, _/_, _≤_, _<_, _^_, zero-le}
-use native.Mathlib.Nat.{mul-le-mul-right, eq-or-lt-of-le, suc-add, add-suc, add-zero, zero-add, add-assoc, add-comm, sub-self, add-sub-cancel, eq-of-mul-eq-mul-left, le-of-mul-le-mul-left, sub-eq-zero-of-le, mul-div-cancel-left, add-left-cancel, mul-comm, le-refl, le-trans, one-mul}
+use Prim.Native.Nat.{ℕ, zero, suc, _+_, _-_, _*_, _/_, _≤_, _<_, _^_}
+use native.Mathlib.Nat.{mul-le-mul-right, eq-or-lt-of-le, suc-add, add-suc, zero-add, eq-of-mul-eq-mul-left}
+use native.Mathlib.Nat.{le-of-mul-le-mul-left, sub-eq-zero-of-le, mul-div-cancel-left, le-trans}
 use native.Mathlib.Omega.{arith}
 use native.Mathlib.Decide.{decLe}
 use mathlib.Core.Logic.{inl, inr}

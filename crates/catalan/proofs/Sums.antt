@@ -8,8 +8,8 @@
 --     conv            the convolution of two sequences, and conv-sum, that it is a sum of products
 -- Assumes nothing.
 use mathlib.Core.Path.{_≡_, refl, sym, ap, _∙_}
-use Prim.Native.Nat.{ℕ, zero, suc, _+_, _-_, _*_, _≤_, _<_, zero-le}
-use native.Mathlib.Nat.{add-zero, add-suc, suc-sub-suc, sub-zero, sub-self}
+use Prim.Native.Nat.{ℕ, zero, suc, _+_, _-_, _*_, _≤_, _<_}
+use native.Mathlib.Nat.{add-zero, add-suc, suc-sub-suc, sub-zero}
 use native.Mathlib.Omega.{arith}
 use Rattle.catalan.specs.Count.{sum}
 

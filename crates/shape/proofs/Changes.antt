@@ -4,13 +4,11 @@
 --     change-least, change-most      it is at least 1 and at most 2n
 --     changes-total          the changes of all numbers of size n sum to C(1) + .. + C(n+1) - 1
 -- Assumes nothing.
-use mathlib.Core.Path.{_≡_, refl, sym, ap, ap₂, _∙_, subst}
-use mathlib.Core.Bool.{Bool, true, false, cond}
-use mathlib.Core.List.{List, [], _∷_}
+use mathlib.Core.Path.{_≡_, refl, ap, _∙_}
+use mathlib.Core.List.{List, _∷_}
 use Prim.Native.Nat.{ℕ, zero, suc, _+_, _-_, _*_, _≤_, _<_}
-use native.Mathlib.Nat.{add-sub-cancel-left, add-suc, add-zero, zero-add, suc-sub-suc, le-refl}
+use native.Mathlib.Nat.{add-sub-cancel-left, add-suc, add-zero}
 use native.Mathlib.Omega.{arith}
-use lib.Dec.{eqb}
 use lib.ListN.{length, getD, take, drop, length-drop}
 use borrow.Author.Tests.{eq-eqb, ne-eqb}
 use Rattle.catalan.specs.Count.{C, ways, words, prefixes, sum}
@@ -18,7 +16,6 @@ use Rattle.catalan.proofs.Sums.{sum-front, sum-cong, sum-split}
 use Rattle.catalan.proofs.Counting.{ways-words, words-one, words-step, C-words, prefixes-step, prefixes-total}
 use Rattle.shape.specs.Order.{Dictionary, differ, agree}
 use Rattle.shape.specs.Number.{localPlaces, localPattern, firstDifference, change}
-use Rattle.shape.specs.Numbering.{Numbering, local}
 use Rattle.shape.proofs.Patterns.{feasible-word, word-length}
 use Rattle.shape.proofs.LocalNumbers.{next-zero, next-one, local-lawful}
 

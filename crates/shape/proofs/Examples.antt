@@ -5,8 +5,7 @@
 --     table-..          01: C(35) and C(36)
 -- Assumes nothing.
 use mathlib.Core.Path.{_≡_, refl}
-use mathlib.Core.List.{List, [], _∷_}
-use Prim.Native.Nat.{ℕ, suc}
+use mathlib.Core.List.{[], _∷_}
 use native.Mathlib.Omega.{arith}
 use Rattle.shape.specs.Tree.{Tree, empty, node, size, permutation, permutationFrom}
 use Rattle.shape.specs.Form.{count, below, cutTree, permutationTree, Feasible, TreePermutation}

@@ -2,7 +2,7 @@
 --     written           a list is well formed of size n exactly when some tree of n nodes is written so
 --     write-injective   no two trees are written alike
 -- Assumes nothing.
-use mathlib.Core.Path.{_≡_, sym, ap, _∙_, subst, subst₂}
+use mathlib.Core.Path.{_≡_, sym, ap, _∙_, subst₂}
 use mathlib.Core.Logic.{_↔_}
 use mathlib.Core.List.{List}
 use Prim.Native.Nat.{ℕ}

@@ -49,7 +49,9 @@ tests l t =
     ∷ eqb (change (size t) (localNumber (pattern t))) (l .changeNo)
     ∷ []
 
+-- what is unfolded with it is what it computes by
 test : Line → Bool
+unfolding tests same patternTree forest size pattern permutation permutationFrom localNumber naturalNumber change count
 test l = every (tests l (patternTree (l .places)))
 
 test-holds : (l : Line) → T (test l) → Holds l
@@ -72,7 +74,7 @@ tested [] h = tt
 tested (l ∷ ls) h = (test-holds l (h .0), tested ls (h .1))
 
 computed : T (every (map test lines))
-unfolding lines test tests same size pattern permutation permutationFrom count forest patternTree localNumber localPlaces localPattern fewerLeft naturalNumber firstDifference change C binom binomBefore ways sum
+unfolding lines test localPattern localPlaces firstDifference fewerLeft C ways binom binomBefore sum
 computed = tt
 
 pub lines-hold : All Holds lines

@@ -8,13 +8,13 @@
 -- Assumes nothing.
 use mathlib.Core.Path.{_≡_, refl, sym, ap, _∙_, subst, subst⁻¹, subst₂}
 use mathlib.Core.Logic.{_↔_, inl, inr}
-use mathlib.Core.List.{List, [], _∷_, _++_, map, List·Memᴰ, List·Memᴰ·head, List·Memᴰ·tail, Memᴰ·map, Memᴰ·of-map, Memᴰ·cast}
+use mathlib.Core.List.{List, [], _∷_, _++_, List·Memᴰ, List·Memᴰ·head, List·Memᴰ·tail, Memᴰ·map, Memᴰ·of-map, Memᴰ·cast}
 use Prim.Native.Nat.{ℕ, zero, suc, _+_, _-_, _≤_, _<_}
 use native.Mathlib.Nat.{zero-add, add-zero, add-suc, suc-add, eq-or-lt-of-le}
 use native.Mathlib.Omega.{arith}
 use lib.ListN.{length, getD}
 use Rattle.shape.specs.Tree.{Tree, size}
-use Rattle.shape.specs.Form.{Form, Faithful}
+use Rattle.shape.specs.Form.{Faithful}
 use Rattle.shape.specs.Order.{Dictionary}
 use Rattle.shape.specs.Numbering.{Numbering, total, WellFormed, Lawful, next, previous, numbersFrom, listOf, treesOf}
 use Rattle.shape.proofs.Lists.{All, Pairs, all-map, all-member, all-each, pairs-weaken, pairs-map, length-map, getD-map}
@@ -46,7 +46,10 @@ pub numbers-within : (k n : ℕ) → All (Within k n) (numbersFrom k n)
 unfolding numbersFrom
 numbers-within k zero = tt
 numbers-within k (suc n) =
-    ((omega arith, omega arith), all-map {P = Within (suc k) n} {Q = Within k (suc n)} (λ j w. (omega arith, omega arith)) (numbersFrom (suc k) n) (numbers-within (suc k) n))
+    ((omega arith, omega arith), all-map within (numbersFrom (suc k) n) (numbers-within (suc k) n))
+  where
+    within : (j : ℕ) → Within (suc k) n j → Within k (suc n) j
+    within j w = (omega arith, omega arith)
 
 pub numbers-rise : (k n : ℕ) → Pairs _<_ (numbersFrom k n)
 unfolding numbersFrom
@@ -56,7 +59,11 @@ numbers-rise k (suc n) = (all-map {P = Within (suc k) n} (λ j w. w .0) (numbers
 numbers-hold : (k n j : ℕ) → k ≤ j → j < k + n → List·Memᴰ j (numbersFrom k n)
 unfolding numbersFrom
 numbers-hold k zero j l h = absurd (omega arith)
-numbers-hold k (suc n) j l h = elim (eq-or-lt-of-le l) [ inl e ↦ List·Memᴰ·head (sym e) | inr g ↦ List·Memᴰ·tail (numbers-hold (suc k) n j g (omega arith)) ]
+numbers-hold k (suc n) j l h =
+    elim (eq-or-lt-of-le l) [
+      | inl e ↦ List·Memᴰ·head (sym e)
+      | inr g ↦ List·Memᴰ·tail (numbers-hold (suc k) n j g (omega arith))
+    ]
 
 -- ---- the list
 
@@ -70,16 +77,22 @@ module _ (N : Numbering) (faithful : Faithful (N .form)) (laws : Lawful N) where
   pub listed : (p : List ℕ) → WellFormed N p ↔ List·Memᴰ p (listOf N)
   unfolding listOf
   listed p = (
-    λ g. Memᴰ·cast (sym (laws .shape-number p g)) (Memᴰ·map (N .shape) (numbers-hold 0 (total N) (N .number p) (omega arith) (omega (arith, laws .number-below p g)))),
+    λ g. let h = laws .number-below p g in
+        Memᴰ·cast (sym (laws .shape-number p g)) (Memᴰ·map (N .shape) (numbers-hold 0 (total N) (N .number p) (omega arith) (omega arith))),
     λ m. let (k, h, e) = Memᴰ·of-map (N .shape) (numbersFrom 0 (total N)) m in
         subst (WellFormed N) e (laws .shape-formed k (all-member (λ j. j < total N) (numbersFrom 0 (total N)) numbers-below h)),
   )
+
+  pub shape-before : (j k : ℕ) → j < total N → k < total N → j < k → Dictionary (N .shape j) (N .shape k)
+  shape-before j k hj hk l =
+      laws .position _ _ (laws .shape-formed j hj) (laws .shape-formed k hk) .1
+      (omega (arith, laws .number-shape j hj, laws .number-shape k hk))
 
   pub list-rises : Pairs Dictionary (listOf N)
   unfolding listOf
   list-rises =
       pairs-map (N .shape) Dictionary
-      (λ j k hj hk l. laws .position _ _ (laws .shape-formed j hj) (laws .shape-formed k hk) .1 (omega (arith, laws .number-shape j hj, laws .number-shape k hk)))
+      shape-before
       (numbersFrom 0 (total N)) numbers-below (numbers-rise 0 (total N))
 
   list-formed : All (WellFormed N) (listOf N)
@@ -96,7 +109,10 @@ module _ (N : Numbering) (faithful : Faithful (N .form)) (laws : Lawful N) where
   trees-rise = pairs-map (N .form .read) (N .Before) tree-before (listOf N) list-formed list-rises
 
   pub trees-differ : Pairs (λ s t. s ≡ t → ⊥) (treesOf N)
-  trees-differ = pairs-weaken (λ s t b e. dictionary-irreflexive (laws .ordered t t refl .0 (subst (λ (x : Tree). N .Before x t) e b))) (treesOf N) trees-rise
+  trees-differ = pairs-weaken differ (treesOf N) trees-rise
+    where
+      differ : (s t : Tree) → N .Before s t → s ≡ t → ⊥
+      differ s t b e = dictionary-irreflexive (laws .ordered t t refl .0 (subst (λ (x : Tree). N .Before x t) e b))
 
   pub trees-listed : (t : Tree) → (size t ≡ N .nodes) ↔ List·Memᴰ t (treesOf N)
   unfolding treesOf
@@ -120,7 +136,8 @@ module _ (N : Numbering) (faithful : Faithful (N .form)) (laws : Lawful N) where
       getD-map (N .shape) (numbersFrom 0 (total N)) k 0 [] (omega (arith, length-numbers 0 (total N)))
       ∙ ap (N .shape) (numbers-at 0 (total N) k h ∙ zero-add k)
 
-  pub position-tree : (k : ℕ) (t : Tree) → k < total N → size t ≡ N .nodes → N .Before (N .form .read (N .shape k)) t ↔ (k < N .number (N .form .write t))
+  pub position-tree : (k : ℕ) (t : Tree) → k < total N → size t ≡ N .nodes
+      → N .Before (N .form .read (N .shape k)) t ↔ (k < N .number (N .form .write t))
   position-tree k t h e =
       let p = N .shape k in
       let q = N .form .write t in

@@ -6,20 +6,18 @@
 --     number-rises            the number follows dictionary order
 --     local-lawful            all of it for the patterns of one size
 -- Assumes nothing.
-use mathlib.Core.Path.{_≡_, refl, sym, ap, ap₂, _∙_, subst, subst₂}
-use mathlib.Core.Bool.{Bool, true, false, cond}
+use mathlib.Core.Path.{_≡_, refl, sym, ap, _∙_, subst, subst₂}
 use mathlib.Core.List.{List, [], _∷_}
 use Prim.Native.Nat.{ℕ, zero, suc, _+_, _-_, _*_, _≤_, _<_}
 use native.Mathlib.Omega.{arith}
 use native.Mathlib.Decide.{decLt}
-use lib.Dec.{ltb}
 use borrow.Author.Tests.{lt-ltb, le-ltb}
 use Rattle.catalan.specs.Count.{C, ways, words}
 use Rattle.catalan.proofs.Counting.{ways-words, C-words, words-one, words-step}
-use Rattle.shape.specs.Form.{count, Feasible}
+use Rattle.shape.specs.Form.{count}
 use Rattle.shape.specs.Order.{Dictionary, differ, agree}
 use Rattle.shape.specs.Number.{localNumber, localPlaces, localPattern}
-use Rattle.shape.specs.Numbering.{Numbering, Lawful, local}
+use Rattle.shape.specs.Numbering.{Lawful, local}
 use Rattle.shape.proofs.Orders.{positioned, local-pattern, pattern-local}
 use Rattle.shape.proofs.Patterns.{Word, done, zero-next, one-next, word-ones, word-zeros, word-length, feasible-word, word-feasible}
 

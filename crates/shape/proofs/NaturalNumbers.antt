@@ -5,11 +5,11 @@
 --     natural-number-rises       the number follows the natural order
 --     natural-lawful             all of it for the tree permutations of one size
 -- Assumes nothing.
-use mathlib.Core.Path.{_≡_, refl, sym, ap, ap₂, _∙_, subst, subst₂}
+use mathlib.Core.Path.{_≡_, refl, sym, ap, ap₂, _∙_, subst₂}
 use mathlib.Core.Logic.{_⊎_, inl, inr}
 use mathlib.Core.List.{List}
 use Prim.Native.Nat.{ℕ, zero, suc, _+_, _-_, _*_, _/_, _%_, _≤_, _<_}
-use native.Mathlib.Nat.{le-antisymm, mod-lt, div-lt-iff-lt-mul, div-add-mod', le-refl, le-trans, lt-of-lt-of-le, mul-le-mul-right, add-sub-cancel-left, eq-or-lt-of-le}
+use native.Mathlib.Nat.{le-antisymm, mod-lt, div-lt-iff-lt-mul, div-add-mod', le-refl, eq-or-lt-of-le}
 use native.Mathlib.Decide.{decLe}
 use native.Mathlib.Omega.{arith}
 use lib.Arith.{digits-lt, digits-div, digits-mod}
@@ -52,7 +52,11 @@ has-left-unique : (m k l l′ : ℕ) → HasLeft m k l → HasLeft m k l′ → 
 has-left-unique m k l l′ h h′ = le-antisymm (lower l l′ h h′) (lower l′ l h′ h)
   where
     lower : (l l′ : ℕ) → HasLeft m k l → HasLeft m k l′ → l ≤ l′
-    lower l l′ h h′ = elim (decLe l l′) [ yes a ↦ a | no a ↦ absurd (omega (arith, fewer-rises m {l = suc l′} {l′ = l} (omega arith), h .from, h′ .to)) ]
+    lower l l′ h h′ =
+        elim (decLe l l′) [
+          | yes a ↦ a
+          | no a ↦ absurd (omega (arith, fewer-rises m {l = suc l′} {l′ = l} (omega arith), h .from, h′ .to))
+        ]
 
 left-nodes : (i m k : ℕ) → k < fewerLeft m (suc i) → HasLeft m k (leftNodes i m k) × (leftNodes i m k ≤ i)
 unfolding leftNodes
@@ -89,7 +93,8 @@ natural-number-below empty = unfold naturalNumber size C in omega arith
 natural-number-below (node l r) =
     let m = size l + size r in
     let whole : C (size (node l r)) ≡ fewerLeft m (suc m) = unfold size in sym (fewer-all m) in
-    omega (arith, node-has-left l r (natural-number-below l) (natural-number-below r) .to, fewer-rises m {l = suc (size l)} {l′ = suc m} (omega arith))
+    let within = node-has-left l r (natural-number-below l) (natural-number-below r) in
+    omega (arith, within .to, fewer-rises m {l = suc (size l)} {l′ = suc m} (omega arith))
 
 -- ---- trees from numbers
 
@@ -212,20 +217,17 @@ right-before l r r′ er h =
       ap (λ (y : ℕ). naturalNumber l * C y) er,
     )
 
-natural-rises : {s t : Tree} → size s ≡ size t → Natural s t → naturalNumber s < naturalNumber t
-natural-rises e (Natural.smaller-first h) = absurd (omega arith)
-natural-rises e (Natural.left-first {l} {r} {l′} {r′} f d) = decide (eq-or-lt-of-le (natural-size d)) (λ q. natural-rises q d)
+pub natural-number-rises : {s t : Tree} → size s ≡ size t → Natural s t → naturalNumber s < naturalNumber t
+natural-number-rises e (Natural.smaller-first h) = absurd (omega arith)
+natural-number-rises e (Natural.left-first {l} {r} {l′} {r′} f d) = decide (eq-or-lt-of-le (natural-size d)) (λ q. natural-number-rises q d)
   where
     decide : (size l ≡ size l′) ⊎ (size l < size l′) → (size l ≡ size l′ → naturalNumber l < naturalNumber l′)
         → naturalNumber (node l r) < naturalNumber (node l′ r′)
     decide (inl q) g = left-before l r l′ r′ q (omega (arith, node-size l r, node-size l′ r′)) (g q)
     decide (inr h) g = fewer-before l r l′ r′ (omega (arith, node-size l r, node-size l′ r′)) h
-natural-rises e (Natural.right-first {l} {r} {r′} f d) =
+natural-number-rises e (Natural.right-first {l} {r} {r′} f d) =
     let parts : size r ≡ size r′ = omega (arith, node-size l r, node-size l r′) in
-    right-before l r r′ parts (natural-rises parts d)
-
-pub natural-number-rises : (s t : Tree) → size s ≡ size t → Natural s t → naturalNumber s < naturalNumber t
-natural-number-rises s t e d = natural-rises e d
+    right-before l r r′ parts (natural-number-rises parts d)
 
 -- ---- the tree permutations of one size
 
@@ -235,18 +237,19 @@ natural-lawful n =
       number-below = λ p f. rw (← permutation-of n p f .1) (natural-number-below (permutationTree p));
       shape-formed = λ k h. rw (natural-tree-size n k h) at (permutation-formed (naturalTree n k));
       number-shape = λ k h. ap naturalNumber (permutation-read (naturalTree n k)) ∙ natural-number-tree n k h;
-      shape-number = λ p f.
-          ap permutation (ap (λ (m : ℕ). naturalTree m (naturalNumber (permutationTree p))) (sym (permutation-of n p f .1)) ∙ natural-tree-number (permutationTree p))
-          ∙ permutation-of n p f .0;
+      shape-number = λ p f. ap permutation (again (permutationTree p) (permutation-of n p f .1)) ∙ permutation-of n p f .0;
       ordered = λ s t e. (natural-permutation s t e, permutation-natural s t e);
       position = λ p q f g.
           positioned (λ p. naturalNumber (permutationTree p)) p q (rises p q f g) (rises q p g f) (f .entries ∙ sym (g .entries));
     }
   where
+    again : (t : Tree) → size t ≡ n → naturalTree n (naturalNumber t) ≡ t
+    again t e = rw (← e) (natural-tree-number t)
+
     rises : (p q : List ℕ) → TreePermutation n p → TreePermutation n q → Dictionary p q
         → naturalNumber (permutationTree p) < naturalNumber (permutationTree q)
     rises p q f g d =
         let (wp, sp) = permutation-of n p f in
         let (wq, sq) = permutation-of n q g in
-        natural-number-rises (permutationTree p) (permutationTree q) (sp ∙ sym sq)
+        natural-number-rises (sp ∙ sym sq)
         (permutation-natural _ _ (sp ∙ sym sq) (subst₂ Dictionary (sym wp) (sym wq) d))

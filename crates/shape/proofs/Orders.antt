@@ -5,16 +5,16 @@
 --     local-pattern, pattern-local            the local order is dictionary order of patterns of one size
 --     natural-permutation, permutation-natural     the natural order is dictionary order of permutations of one size
 -- Assumes nothing.
-use mathlib.Core.Path.{_≡_, refl, sym, ap, ap₂, _∙_, subst, subst₂}
+use mathlib.Core.Path.{_≡_, refl, sym, ap, _∙_, subst, subst₂}
 use mathlib.Core.Logic.{_↔_}
-use mathlib.Core.List.{List, [], _∷_, _++_, append-assoc}
-use Prim.Native.Nat.{ℕ, zero, suc, _+_, _-_, _*_, _≤_, _<_}
+use mathlib.Core.List.{List, [], _∷_, _++_}
+use Prim.Native.Nat.{ℕ, zero, suc, _+_, _≤_, _<_}
 use native.Mathlib.Nat.{lt-irrefl, lt-trans, lt-suc-self, lt-of-lt-of-le, lt-of-le-of-lt, le-of-eq}
 use native.Mathlib.Omega.{arith}
 use lib.ListN.{length}
 use Rattle.shape.specs.Tree.{Tree, empty, node, size, pattern, permutation, permutationFrom}
 use Rattle.shape.specs.Order.{Local, Natural, Dictionary, differ, agree, Comparison, before, same, after, TotalOrder}
-use Rattle.shape.proofs.Patterns.{length-pattern}
+use Rattle.shape.proofs.Patterns.{length-pattern, pattern-node}
 
 compare-numbers : (m n : ℕ) → Comparison _<_ m n
 compare-numbers zero zero = same refl
@@ -133,11 +133,10 @@ laid-before : {s t : Tree} → Local s t → (u v : List ℕ) → Dictionary (pa
 unfolding pattern
 laid-before Local.empty-first u v = differ (lt-suc-self 0)
 laid-before (Local.left-first {l} {r} {l′} {r′} d) u v =
-    subst₂ (λ (x y : List ℕ). Dictionary (1 ∷ x) (1 ∷ y)) (sym (append-assoc (pattern l) (0 ∷ pattern r) (0 ∷ u))) (sym (append-assoc (pattern l′) (0 ∷ pattern r′) (0 ∷ v)))
+    subst₂ Dictionary (sym (pattern-node l r (0 ∷ u))) (sym (pattern-node l′ r′ (0 ∷ v)))
     (agree (laid-before d (pattern r ++ 0 ∷ u) (pattern r′ ++ 0 ∷ v)))
 laid-before (Local.right-first {l} {r} {r′} d) u v =
-    subst₂ (λ (x y : List ℕ). Dictionary (1 ∷ x) (1 ∷ y)) (sym (append-assoc (pattern l) (0 ∷ pattern r) (0 ∷ u))) (sym (append-assoc (pattern l) (0 ∷ pattern r′) (0 ∷ v)))
-    (agree (common (pattern l) (agree (laid-before d u v))))
+    subst₂ Dictionary (sym (pattern-node l r (0 ∷ u))) (sym (pattern-node l r′ (0 ∷ v))) (agree (common (pattern l) (agree (laid-before d u v))))
 
 pub local-pattern : (s t : Tree) → size s ≡ size t → Local s t → Dictionary (pattern s) (pattern t)
 local-pattern s t e d =
@@ -210,8 +209,8 @@ natural-from e (Natural.left-first {l} {r} {l′} {r′} f d) base = decide (com
         → Dictionary (permutationFrom base (node l r)) (permutationFrom base (node l′ r′))
     decide (before h) g = let lower : suc (base + size l) < suc (base + size l′) = omega arith in differ lower
     decide (same q) g =
-        subst (λ (x : ℕ). Dictionary (permutationFrom base (node l r)) (suc (base + x) ∷ permutationFrom base l′ ++ permutationFrom (suc (base + x)) r′)) q
-        (agree (followed _ _ (g q)))
+        let after : ℕ → List ℕ = λ x. suc (base + x) ∷ (permutationFrom base l′ ++ permutationFrom (suc (base + x)) r′) in
+        subst (λ (x : ℕ). Dictionary (permutationFrom base (node l r)) (after x)) q (agree (followed _ _ (g q)))
     decide (after h) g = absurd (omega (arith, natural-size d))
 natural-from e (Natural.right-first {l} {r} {r′} f d) base =
     let parts : size r ≡ size r′ = unfold size in omega arith in

@@ -2,6 +2,7 @@
 --     Word e a w           w can follow a prefix with e more ones than zeros, and has a ones: the working form of "feasible"
 --     word-ones, word-zeros, word-length      what a word holds
 --     feasible-word, word-feasible            a feasible pattern of size n is a word with no excess before it and n ones
+--     pattern-node         a node's pattern, and what follows it, part after part
 --     pattern-formed       a tree's pattern is feasible
 --     pattern-read         the tree is read back from its pattern
 --     pattern-of           a feasible pattern is the pattern of the tree read from it
@@ -10,10 +11,10 @@
 -- Assumes nothing.
 use mathlib.Core.Path.{_≡_, refl, sym, ap, _∙_, subst, subst₂}
 use mathlib.Core.List.{List, [], _∷_, _++_, append-assoc, append-nil}
-use Prim.Native.Nat.{ℕ, zero, suc, _+_, _-_, _*_, _≤_, _<_, zero-le}
-use native.Mathlib.Nat.{suc-add, add-suc, add-zero, zero-add, add-assoc, le-refl}
+use Prim.Native.Nat.{ℕ, zero, suc, _+_, _*_, _≤_, _<_, zero-le}
+use native.Mathlib.Nat.{add-zero, zero-add, le-refl}
 use native.Mathlib.Omega.{arith}
-use lib.ListN.{length, getD, take, drop, length-append}
+use lib.ListN.{length, getD, take}
 use Rattle.shape.specs.Tree.{Tree, empty, node, size, pattern}
 use Rattle.shape.specs.Form.{count, Feasible, forest, joined, patternTree, patterns, Faithful}
 
@@ -75,9 +76,11 @@ follows [] e a h o z f =
     let even : 0 ≡ e = omega arith in
     subst₂ (λ (e a : ℕ). Word e a []) even none done
 follows (zero ∷ p) zero a h o z f = absurd (let z = f 1 in omega arith)
-follows (zero ∷ p) (suc e) a h o z f = zero-next (follows p e a (λ i l. h (suc i) (omega arith)) o (omega arith) (λ i. omega (arith, f (suc i))))
+follows (zero ∷ p) (suc e) a h o z f =
+    zero-next (follows p e a (λ i l. h (suc i) (omega arith)) o (omega arith) (λ i. omega (arith, f (suc i))))
 follows (suc zero ∷ p) e zero h o z f = absurd (omega arith)
-follows (suc zero ∷ p) e (suc a) h o z f = one-next (follows p (suc e) a (λ i l. h (suc i) (omega arith)) (omega arith) (omega arith) (λ i. omega (arith, f (suc i))))
+follows (suc zero ∷ p) e (suc a) h o z f =
+    one-next (follows p (suc e) a (λ i l. h (suc i) (omega arith)) (omega arith) (omega arith) (λ i. omega (arith, f (suc i))))
 follows (suc (suc x) ∷ p) e a h o z f = absurd (let z = h 0 (omega arith) in omega arith)
 
 pub feasible-word : {n : ℕ} {p : List ℕ} → Feasible n p → Word 0 n p
@@ -85,13 +88,17 @@ feasible-word {n} {p} g = follows p 0 n (g .places) (g .ones) (omega (arith, g .
 
 -- ---- trees
 
+-- a node's pattern, and what follows it, part after part
+pub pattern-node : (l r : Tree) (w : List ℕ) → pattern (node l r) ++ w ≡ 1 ∷ (pattern l ++ 0 ∷ (pattern r ++ w))
+unfolding pattern
+pattern-node l r w = ap {B = List ℕ} (λ v. 1 ∷ v) (append-assoc (pattern l) (0 ∷ pattern r) w)
+
 -- the pattern of a tree, put before a word, leaves its excess
 laid : (t : Tree) {e a : ℕ} {w : List ℕ} → Word e a w → Word e (size t + a) (pattern t ++ w)
 unfolding size pattern
 laid empty {e} {a} {w} r = subst (λ (n : ℕ). Word e n w) (sym (zero-add a)) r
 laid (node l r) {e} {a} {w} s =
-    subst₂ (λ (n : ℕ) (v : List ℕ). Word e n (1 ∷ v)) (omega arith) (sym (append-assoc (pattern l) (0 ∷ pattern r) w))
-    (one-next (laid l (zero-next (laid r s))))
+    subst₂ (Word e) (omega arith) (sym (pattern-node l r w)) (one-next (laid l (zero-next (laid r s))))
 
 pub pattern-word : (t : Tree) → Word 0 (size t) (pattern t)
 pattern-word t = subst₂ (Word 0) (add-zero (size t)) (append-nil (pattern t)) (laid t done)
@@ -107,7 +114,7 @@ forest-tree : (t : Tree) (w : List ℕ) → forest (pattern t ++ 0 ∷ w) ≡ t 
 unfolding forest pattern
 forest-tree empty w = refl
 forest-tree (node l r) w =
-    ap (λ (v : List ℕ). joined (forest v)) (append-assoc (pattern l) (0 ∷ pattern r) (0 ∷ w))
+    ap forest (pattern-node l r (0 ∷ w))
     ∙ ap joined (forest-tree l (pattern r ++ 0 ∷ w) ∙ ap {B = List Tree} (λ ts. l ∷ ts) (forest-tree r w))
 
 forest-last : (t : Tree) → forest (pattern t) ≡ t ∷ []
@@ -128,7 +135,7 @@ joins : {e : ℕ} {w : List ℕ} → Laid (suc e) w → Laid e (1 ∷ w)
 unfolding pattern
 joins (before l (last r)) = last (node l r)
 joins (before l (before {e = e} {w = w} r ts)) =
-    subst (λ (v : List ℕ). Laid (suc e) (1 ∷ v)) (append-assoc (pattern l) (0 ∷ pattern r) (0 ∷ w)) (before (node l r) ts)
+    subst (Laid (suc e)) (pattern-node l r (0 ∷ w)) (before (node l r) ts)
 
 grown : {e a : ℕ} {w : List ℕ} → Word e a w → Laid e w
 unfolding pattern

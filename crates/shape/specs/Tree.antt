@@ -4,7 +4,7 @@
 --     permutation t      "Permutation (source document 004)"
 -- Assumes nothing.
 use mathlib.Core.List.{List, [], _∷_, _++_}
-use Prim.Native.Nat.{ℕ, zero, suc, _+_}
+use Prim.Native.Nat.{ℕ, suc, _+_}
 
 -- 001, section 2: "T is either empty, or it has a node linking to two subtrees".
 pub data Tree : Type 0 where
