@@ -1,4 +1,6 @@
 -- Laws of what the bench counts, for every size.
+--     words-one, words-none, words-step      no node: one word; nodes but no tree: none; else a 0 or a 1 comes first
+--     words-rise, words-positive             one tree more, no fewer words; a tree or more, a word at least
 --     C-rule               (k+2)·C(k+1) = (4k+2)·C(k): no remainder is lost
 --     ways-words           the ways to finish are the words for the trees still to come
 --     ways-none            more ones than zeros: no way
@@ -32,6 +34,18 @@ pub words-step : (m a : ℕ) → words (suc m) (suc a) ≡ words m (suc a) + wor
 unfolding words
 words-step m a = refl
 
+pub words-none : (a : ℕ) → words 0 (suc a) ≡ 0
+unfolding words
+words-none a = refl
+
+pub words-rise : (m a : ℕ) → words m a ≤ words (suc m) a
+words-rise m zero = omega (arith, words-one m, words-one (suc m))
+words-rise m (suc a) = omega (arith, words-step m a)
+
+pub words-positive : (a m : ℕ) → 0 < words (suc m) a
+words-positive zero m = omega (arith, words-one (suc m))
+words-positive (suc a) m = omega (arith, words-step m a, words-positive a (suc m))
+
 -- the words of one tree or more are a difference of two neighbours in Pascal's triangle
 words-binom : (a m n : ℕ) → a + a + m ≡ n → words (suc m) a + binomBefore n a ≡ binom n a
 unfolding binomBefore
@@ -40,10 +54,9 @@ words-binom (suc a) zero n e =
     let k = a + suc a in
     let top : suc k ≡ n = omega arith in
     let low : a + a + 1 ≡ k = omega arith in
-    let none : words 0 (suc a) ≡ 0 = unfold words in refl in
     subst (λ (n : ℕ). words 1 (suc a) + binom n a ≡ binom n (suc a)) top
     (rw (words-step, binom-pascal k a, binom-pascal k (suc a))
-    (omega (arith, words-binom a 1 k low, binom-mirror a (suc a))))
+    (omega (arith, words-none a, words-binom a 1 k low, binom-mirror a (suc a))))
 words-binom (suc a) (suc m) n e =
     let k = suc a + suc a + m in
     let top : suc k ≡ n = omega arith in
@@ -63,7 +76,7 @@ ways-none (suc a) b h =
 -- a ones and b zeros left leave b + 1 - a trees to come, the one whose last 0 is dropped among them
 pub ways-words : (a b m : ℕ) → a + m ≡ suc b → ways a b ≡ words m a
 ways-words a b (suc m) e = unfold ways in omega (arith, words-binom a m (a + b) (omega arith))
-ways-words (suc a) b zero e = ways-none (suc a) b (omega arith) ∙ unfold words in refl
+ways-words (suc a) b zero e = ways-none (suc a) b (omega arith) ∙ sym (words-none a)
 ways-words zero b zero e = absurd (omega arith)
 
 ways-no-ones : (b : ℕ) → ways 0 b ≡ 1
@@ -177,8 +190,7 @@ words-join (suc a) (suc m) k =
 
 pub segner : (n : ℕ) → C (suc n) ≡ sum (suc n) (λ j. C j * C (n - j))
 segner n =
-    let none : words 0 (suc n) ≡ 0 = unfold words in refl in
-    (C-words (suc n) ∙ words-step 0 n ∙ omega arith)
+    (C-words (suc n) ∙ words-step 0 n ∙ omega (arith, words-none n))
     ∙ words-join n 1 1
     ∙ conv-sum (words 1) (words 1) n
     ∙ sum-cong (suc n) _ _ (λ j l. rw (C-words j, C-words (n - j)))
@@ -195,14 +207,13 @@ prefixes-no-tree zero = refl
 prefixes-no-tree (suc a) = refl
 
 words-one-node : (m : ℕ) → words m 1 ≡ m
-words-one-node zero = unfold words in refl
+words-one-node zero = words-none 0
 words-one-node (suc m) = rw words-step (omega (arith, words-one-node m, words-one (suc (suc m))))
 
 pub prefixes-words : (a m : ℕ) → suc (prefixes m a) ≡ sum (suc (suc a)) (words m)
 prefixes-words zero m = unfold prefixes sum in omega (arith, words-one m, words-one-node m)
 prefixes-words (suc a) zero =
-    let none : words 0 (suc (suc a)) ≡ 0 = unfold words in refl in
-    rw sum-last (omega (arith, prefixes-words a 0, prefixes-no-tree a, prefixes-no-tree (suc a)))
+    rw sum-last (omega (arith, words-none (suc a), prefixes-words a 0, prefixes-no-tree a, prefixes-no-tree (suc a)))
 prefixes-words (suc a) (suc m) =
     let k = suc (suc a) in
     rw (sum-front, prefixes-step, terms k)

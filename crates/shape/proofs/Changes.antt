@@ -2,6 +2,7 @@
 --     first-difference       what the first difference of two lists in order is: before it they agree, there they differ
 --     change-places          the change counts the places from the first difference to the end
 --     change-least, change-most      it is at least 1 and at most 2n
+--     changes-counted        the changes of all numbers of size n count the prefixes of its patterns, but for the empty one
 --     changes-total          the changes of all numbers of size n sum to C(1) + .. + C(n+1) - 1
 -- Assumes nothing.
 use mathlib.Core.Path.{_≡_, refl, ap, _∙_}
@@ -13,9 +14,11 @@ use lib.ListN.{length, getD, take, drop, length-drop}
 use borrow.Author.Tests.{eq-eqb, ne-eqb}
 use Rattle.catalan.specs.Count.{C, ways, words, prefixes, sum}
 use Rattle.catalan.proofs.Sums.{sum-front, sum-cong, sum-split}
-use Rattle.catalan.proofs.Counting.{ways-words, words-one, words-step, C-words, prefixes-step, prefixes-total}
+use Rattle.catalan.proofs.Counting.{ways-words, words-positive, words-step, C-words, prefixes-step, prefixes-total}
 use Rattle.shape.specs.Order.{Dictionary, differ, agree}
 use Rattle.shape.specs.Number.{localPlaces, localPattern, firstDifference, change}
+use Rattle.shape.specs.Numbering.{local}
+use Rattle.shape.proofs.Listing.{shape-before}
 use Rattle.shape.proofs.Patterns.{feasible-word, word-length}
 use Rattle.shape.proofs.LocalNumbers.{next-zero, next-one, local-lawful}
 
@@ -50,11 +53,7 @@ length-local : (n k : ℕ) → k < C n → length (localPattern n k) ≡ 2 * n
 length-local n k h = omega (arith, word-length (feasible-word (local-lawful n .shape-formed k h)))
 
 neighbours : (n k : ℕ) → suc k < C n → Dictionary (localPattern n k) (localPattern n (suc k))
-neighbours n k h =
-    let laws = local-lawful n in
-    let low : k < C n = omega arith in
-    laws .position _ _ (laws .shape-formed k low) (laws .shape-formed (suc k) h) .1
-    (omega (arith, laws .number-shape k low, laws .number-shape (suc k) h))
+neighbours n k h = shape-before (local n) (local-lawful n) k (suc k) (omega arith) h (omega arith)
 
 pub change-places : (n k : ℕ) → suc k < C n
     → (i : ℕ) × DifferAt (localPattern n k) (localPattern n (suc k)) i × (change n (suc k) ≡ length (drop i (localPattern n (suc k))))
@@ -114,10 +113,6 @@ sum-block zero f g p e h = absurd (omega arith)
 sum-block (suc n) f g p e h =
     omega (arith, sum-front n f, sum-front n g, sum-cong n (λ k. f (suc k)) (λ k. g (suc k)) (λ k l. h k (omega arith)))
 
-words-positive : (a m : ℕ) → 0 < words (suc m) a
-words-positive zero m = omega (arith, words-one (suc m))
-words-positive (suc a) m = omega (arith, words-step m a, words-positive a (suc m))
-
 -- the changes of all words number their prefixes, but for the empty one
 abbrev Counted : ℕ → Type 0
 Counted i = (e a b : ℕ) → e + a ≡ b → a + b ≡ i → suc (sum (words (suc e) a) (placesChange i a b)) ≡ prefixes (suc e) a
@@ -159,8 +154,10 @@ unfolding change localPattern placesChange
 whole-change n zero = refl
 whole-change n (suc k) = refl
 
-pub changes-total : (n : ℕ) → suc (sum (C n) (change n)) ≡ sum (suc n) (λ k. C (suc k))
-changes-total n =
+pub changes-counted : (n : ℕ) → suc (sum (C n) (change n)) ≡ prefixes 1 n
+changes-counted n =
     ap suc (ap (λ (m : ℕ). sum m (change n)) (C-words n) ∙ sum-cong (words 1 n) (change n) (placesChange (2 * n) n n) (λ k h. whole-change n k))
     ∙ changes-prefixes (2 * n) 0 n n (omega arith) (omega arith)
-    ∙ prefixes-total n
+
+pub changes-total : (n : ℕ) → sum (C n) (change n) ≡ sum (suc n) (λ k. C (suc k)) - 1
+changes-total n = omega (arith, changes-counted n, prefixes-total n)

@@ -1,10 +1,11 @@
 -- The whole list of a numbering, for any size, form and order: each shape of the size is there exactly once, in order.
---     numbers-rise, numbers-within, numbers-member, numbers-join, length-numbers      so many numbers from one on
+--     length-numbers, numbers-at, numbers-join      so many numbers from one on, place by place, and one stretch after another
+--     numbers-within, numbers-hold, numbers-rise    they are exactly the numbers of the stretch, in order
 --     list-at, length-list, length-trees     the shape numbered k stands at place k of the list, which has C(n) places
+--     shape-before             of two shapes, the one with the smaller number stands first
 --     listed, list-rises       the list holds exactly the well formed lists, in dictionary order
 --     trees-listed, trees-differ, trees-rise     as trees: exactly those of n nodes, no two the same, in the order of trees
 --     position-tree            the shape numbered k stands before t exactly when k is below t's number
---     number-next, number-previous, previous-next, next-previous      a step is to the number one higher or lower, and back
 -- Assumes nothing.
 use mathlib.Core.Path.{_≡_, refl, sym, ap, _∙_, subst, subst⁻¹, subst₂}
 use mathlib.Core.Logic.{_↔_, inl, inr}
@@ -16,7 +17,7 @@ use lib.ListN.{length, getD}
 use Rattle.shape.specs.Tree.{Tree, size}
 use Rattle.shape.specs.Form.{Faithful}
 use Rattle.shape.specs.Order.{Dictionary}
-use Rattle.shape.specs.Numbering.{Numbering, total, WellFormed, Lawful, next, previous, numbersFrom, listOf, treesOf}
+use Rattle.shape.specs.Numbering.{Numbering, total, WellFormed, Lawful, numbersFrom, listOf, treesOf}
 use Rattle.shape.proofs.Lists.{All, Pairs, all-map, all-member, all-each, pairs-weaken, pairs-map, length-map, getD-map}
 use Rattle.shape.proofs.Orders.{dictionary-irreflexive}
 
@@ -56,7 +57,7 @@ unfolding numbersFrom
 numbers-rise k zero = tt
 numbers-rise k (suc n) = (all-map {P = Within (suc k) n} (λ j w. w .0) (numbersFrom (suc k) n) (numbers-within (suc k) n), numbers-rise (suc k) n)
 
-numbers-hold : (k n j : ℕ) → k ≤ j → j < k + n → List·Memᴰ j (numbersFrom k n)
+pub numbers-hold : (k n j : ℕ) → k ≤ j → j < k + n → List·Memᴰ j (numbersFrom k n)
 unfolding numbersFrom
 numbers-hold k zero j l h = absurd (omega arith)
 numbers-hold k (suc n) j l h =
@@ -66,6 +67,11 @@ numbers-hold k (suc n) j l h =
     ]
 
 -- ---- the list
+
+pub shape-before : (N : Numbering) → Lawful N → (j k : ℕ) → j < total N → k < total N → j < k → Dictionary (N .shape j) (N .shape k)
+shape-before N laws j k hj hk l =
+    laws .position _ _ (laws .shape-formed j hj) (laws .shape-formed k hk) .1
+    (omega (arith, laws .number-shape j hj, laws .number-shape k hk))
 
 module _ (N : Numbering) (faithful : Faithful (N .form)) (laws : Lawful N) where
   numbers-below : All (λ k. k < total N) (numbersFrom 0 (total N))
@@ -83,17 +89,10 @@ module _ (N : Numbering) (faithful : Faithful (N .form)) (laws : Lawful N) where
         subst (WellFormed N) e (laws .shape-formed k (all-member (λ j. j < total N) (numbersFrom 0 (total N)) numbers-below h)),
   )
 
-  pub shape-before : (j k : ℕ) → j < total N → k < total N → j < k → Dictionary (N .shape j) (N .shape k)
-  shape-before j k hj hk l =
-      laws .position _ _ (laws .shape-formed j hj) (laws .shape-formed k hk) .1
-      (omega (arith, laws .number-shape j hj, laws .number-shape k hk))
-
   pub list-rises : Pairs Dictionary (listOf N)
   unfolding listOf
   list-rises =
-      pairs-map (N .shape) Dictionary
-      shape-before
-      (numbersFrom 0 (total N)) numbers-below (numbers-rise 0 (total N))
+      pairs-map (N .shape) Dictionary (shape-before N laws) (numbersFrom 0 (total N)) numbers-below (numbers-rise 0 (total N))
 
   list-formed : All (WellFormed N) (listOf N)
   list-formed = all-each (listOf N) (λ p m. listed p .1 m)
@@ -149,30 +148,3 @@ module _ (N : Numbering) (faithful : Faithful (N .form)) (laws : Lawful N) where
         λ b. omega (arith, by-number .0 (subst (λ (w : List ℕ). Dictionary w q) again (by-form .0 b))),
         λ l. by-form .1 (subst⁻¹ (λ (w : List ℕ). Dictionary w q) again (by-number .1 (omega arith))),
       )
-
--- ---- steps
-
-module _ (N : Numbering) (laws : Lawful N) (p : List ℕ) (g : WellFormed N p) where
-  pub next-formed : N .number p + 1 < total N → WellFormed N (next N p)
-  unfolding next
-  next-formed h = laws .shape-formed _ h
-
-  pub number-next : N .number p + 1 < total N → N .number (next N p) ≡ N .number p + 1
-  unfolding next
-  number-next h = laws .number-shape _ h
-
-  pub previous-next : N .number p + 1 < total N → previous N (next N p) ≡ p
-  unfolding previous
-  previous-next h = ap (N .shape) (omega (arith, number-next h)) ∙ laws .shape-number p g
-
-  pub previous-formed : WellFormed N (previous N p)
-  unfolding previous
-  previous-formed = laws .shape-formed _ (omega (arith, laws .number-below p g))
-
-  pub number-previous : N .number (previous N p) ≡ N .number p - 1
-  unfolding previous
-  number-previous = laws .number-shape _ (omega (arith, laws .number-below p g))
-
-  pub next-previous : 0 < N .number p → next N (previous N p) ≡ p
-  unfolding next
-  next-previous h = ap (N .shape) (omega (arith, number-previous)) ∙ laws .shape-number p g

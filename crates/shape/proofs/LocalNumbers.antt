@@ -13,7 +13,7 @@ use native.Mathlib.Omega.{arith}
 use native.Mathlib.Decide.{decLt}
 use borrow.Author.Tests.{lt-ltb, le-ltb}
 use Rattle.catalan.specs.Count.{C, ways, words}
-use Rattle.catalan.proofs.Counting.{ways-words, C-words, words-one, words-step}
+use Rattle.catalan.proofs.Counting.{ways-words, C-words, words-one, words-none, words-step, words-rise}
 use Rattle.shape.specs.Form.{count}
 use Rattle.shape.specs.Order.{Dictionary, differ, agree}
 use Rattle.shape.specs.Number.{localNumber, localPlaces, localPattern}
@@ -25,18 +25,13 @@ use Rattle.shape.proofs.Patterns.{Word, done, zero-next, one-next, word
 number-one : {e a : ℕ} {w : List ℕ} → Word (suc e) a w → localNumber (1 ∷ w) ≡ words e (suc a) + localNumber w
 unfolding localNumber
 number-one {e} {a} {w} r =
-    let none = word-ones r in
+    let ones = word-ones r in
     let zeros = word-zeros r in
-    ap (λ (z : ℕ). z + localNumber w) (ways-words (suc (count 1 w)) (count 0 w - 1) e (omega arith) ∙ ap (λ (z : ℕ). words e (suc z)) none)
+    ap (λ (z : ℕ). z + localNumber w) (ways-words (suc (count 1 w)) (count 0 w - 1) e (omega arith) ∙ ap (λ (z : ℕ). words e (suc z)) ones)
 
 number-zero : (w : List ℕ) → localNumber (0 ∷ w) ≡ localNumber w
 unfolding localNumber
 number-zero w = refl
-
--- one tree more, no fewer words
-words-rise : (m a : ℕ) → words m a ≤ words (suc m) a
-words-rise m zero = omega (arith, words-one m, words-one (suc m))
-words-rise m (suc a) = omega (arith, words-step m a)
 
 pub word-number-below : {e a : ℕ} {w : List ℕ} → Word e a w → localNumber w < words (suc e) a
 word-number-below done = unfold localNumber words in omega arith
@@ -66,7 +61,7 @@ Placed i = (e a b k : ℕ) → e + a ≡ b → a + b ≡ i → k < words (suc e)
 module _ (i : ℕ) (rest : Placed i) where
   placed-zero : (e a b k : ℕ) → e + a ≡ b → a + b ≡ suc i → ways a (b - 1) ≡ words e a → k < words e a → Numbered e a k (localPlaces (suc i) a b k)
   placed-zero zero zero b k hb hi q h = absurd (omega arith)
-  placed-zero zero (suc a) b k hb hi q h = let none : words 0 (suc a) ≡ 0 = unfold words in refl in absurd (omega arith)
+  placed-zero zero (suc a) b k hb hi q h = absurd (omega (arith, words-none a))
   placed-zero (suc e) a b k hb hi q h =
       let r = rest e a (b - 1) k (omega arith) (omega arith) h in
       subst (Numbered (suc e) a k) (sym (next-zero i a b k (omega arith))) (zero-next (r .0), number-zero _ ∙ r .1)
