@@ -51,7 +51,7 @@ binom-mirror (suc a) (suc b) =
     rw (suc-add, add-suc, pascal (suc (a + b)) a, pascal (suc (a + b)) b)
     (omega (arith, rw add-suc at (binom-mirror a (suc b)), rw suc-add at (binom-mirror (suc a) b)))
 
--- 01, "Errors that look right": the full binomials that the counts of size 35 are the difference of pass 64 bits.
+-- 01, Errors that look right: the counts of size 35 fit 64 bits, and the binomials whose differences they are do not.
 pub binom-passes-width : 2 ^ 64 ≤ binom 70 35
 unfolding binom
 binom-passes-width = lit≤ tt

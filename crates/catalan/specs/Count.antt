@@ -9,12 +9,12 @@
 -- Assumes nothing.
 use Prim.Native.Nat.{ℕ, zero, suc, _+_, _-_, _*_, _/_}
 
--- "C(0) = 1 and (k+2)·C(k+1) = (4k+2)·C(k)". That the division leaves no remainder is the law `C-rule`.
+-- 01, What the bench holds: each number from the one before. The division leaves no remainder (`C-rule`).
 unfoldable pub C : ℕ → ℕ
 C zero = 1
 C (suc k) = (4 * k + 2) * C k / (k + 2)
 
--- "C(37) does not [fit in 64 bits], which is why 35 is the largest size": the figure of size n needs C(n+1).
+-- 01, What the bench holds. The figure of a whole size n adds up C(1) to C(n+1), and C(37) passes 64 bits (`size-limit`).
 abbrev pub largestSize : ℕ
 largestSize = 35
 
@@ -24,13 +24,13 @@ binom n zero = 1
 binom zero (suc k) = 0
 binom (suc n) (suc k) = binom n k + binom n (suc k)
 
--- binom(n, k-1), "the second term 0 for a = 0".
+-- binom(n, k-1), and 0 where there is no k-1.
 unfoldable pub binomBefore : ℕ → ℕ → ℕ
 binomBefore n zero = 0
 binomBefore n (suc k) = binom n k
 
--- "With a ones and b zeros left to place, a <= b, the ways to finish number binom(a+b, a) - binom(a+b, a-1)". More ones than zeros
--- leave no way (`ways-none`).
+-- 01, Two orders; 001, lemma 1: of all the ways to place a ones and b zeros, those that keep to a pattern's rule. More ones than zeros
+-- leave none (`ways-none`).
 unfoldable pub ways : ℕ → ℕ → ℕ
 ways a b = binom (a + b) a - binomBefore (a + b) a
 

@@ -23,14 +23,14 @@ unfoldable pub below : ℕ → List ℕ → ℕ
 below x [] = 0
 below x (y ∷ p) = cond (ltb y x) (suc (below x p)) (below x p)
 
--- "held one to a byte, value 0 or 1. It is feasible when it has n ones and n zeros and no prefix has more zeros than ones."
+-- 01, Two forms; 001, section 2: zeros and ones, n of each, and at no point more zeros than ones so far.
 pub record Feasible (n : ℕ) (p : List ℕ) : Type 0 where
   pub places : (i : ℕ) → i < length p → getD p i 0 ≤ 1
   pub ones : count 1 p ≡ n
   pub zeros : count 0 p ≡ n
   pub prefix : (i : ℕ) → count 0 (take i p) ≤ count 1 (take i p)
 
--- A permutation of 1..n, which "is a tree permutation when no three entries in positions i < j < k have entry k < entry i < entry j."
+-- 01, Two forms; 004, section 1: each of 1..n once, and never an entry, later a larger one, and still later one smaller than both.
 pub record TreePermutation (n : ℕ) (p : List ℕ) : Type 0 where
   pub entries : length p ≡ n
   pub least : (i : ℕ) → i < length p → 1 ≤ getD p i 0

@@ -1,4 +1,4 @@
--- "Hand-checked lines" 1 to 12 of document 01.
+-- The lines that trainees check by hand: 01, Hand-checked lines, 1 to 12.
 --     Line, lines     the table
 --     Holds           what a line says: there is such a tree
 -- Assumes nothing.

@@ -48,7 +48,7 @@ pub record Lawful (N : Numbering) : Type 0 where
   pub shape-formed : (k : ℕ) → k < total N → WellFormed N (N .shape k)
   pub number-shape : (k : ℕ) → k < total N → N .number (N .shape k) ≡ k
   pub shape-number : (p : List ℕ) → WellFormed N p → N .shape (N .number p) ≡ p
-  -- "On patterns of one size this is dictionary order", "On permutations of one size it is dictionary order."
+  -- 01, Two orders: on lists of one size the order of the trees is dictionary order
   pub ordered : (s t : Tree) → size s ≡ size t → N .Before s t ↔ Dictionary (N .form .write s) (N .form .write t)
   pub position : (p q : List ℕ) → WellFormed N p → WellFormed N q → Dictionary p q ↔ (N .number p < N .number q)
 

@@ -1,6 +1,6 @@
 -- The orders.
---     Local          "Local (001, definition 2)"
---     Natural        "Natural (004)", which is 001's definition 1
+--     Local          the order in which patterns are numbered: 01, Two orders; 001, definition 2
+--     Natural        the order in which permutations are numbered: 01, Two orders; 004, section 1; 001, definition 1
 --     Dictionary     dictionary order of lists of one length
 --     TotalOrder     of any two things one stands before the other, or they are the same
 -- Assumes nothing.
@@ -10,19 +10,19 @@ use Prim.Native.Nat.{ℕ, _<_}
 use Rattle.shape.specs.Tree.{Tree, empty, node, size}
 
 pub data Local : Tree → Tree → Type 0 where
-  -- (1) T is empty and T' is not
+  -- (1) the empty tree stands before every other
   empty-first : {l r : Tree} → Local empty (node l r)
-  -- (2) both T and T' are not empty, and left(T) < left(T')
+  -- (2) of two nodes, the one whose left part stands first
   left-first : {l r l′ r′ : Tree} → Local l l′ → Local (node l r) (node l′ r′)
-  -- (3) both T and T' are not empty, and left(T) = left(T') and right(T) < right(T')
+  -- (3) of two nodes with the same left part, the one whose right part stands first
   right-first : {l r r′ : Tree} → Local r r′ → Local (node l r) (node l r′)
 
 pub data Natural : Tree → Tree → Type 0 where
-  -- (1) |T| < |T'|
+  -- (1) the tree with fewer nodes stands first
   smaller-first : {s t : Tree} → size s < size t → Natural s t
-  -- (2) |T| = |T'| and left(T) < left(T')
+  -- (2) of two trees of one size, the one whose left part stands first
   left-first : {l r l′ r′ : Tree} → size (node l r) ≡ size (node l′ r′) → Natural l l′ → Natural (node l r) (node l′ r′)
-  -- (3) |T| = |T'| and left(T) = left(T') and right(T) < right(T')
+  -- (3) of two trees of one size with the same left part, the one whose right part stands first
   right-first : {l r r′ : Tree} → size (node l r) ≡ size (node l r′) → Natural r r′ → Natural (node l r) (node l r′)
 
 -- The smaller number at the first place where the lists differ. Of lists of one length none ends before that place.

@@ -1,7 +1,6 @@
--- What an answer says, in the words of document 01: the refusal's number, 0 where there is none, and a value, 0 where there is nothing
--- to say.
---     refusalNumber            "Refusal numbers", 1 to 11
---     Reply
+-- What an answer says to its user: the refusal's number, 0 where there is none, and a value, 0 where there is nothing to say.
+--     refusalNumber            1 to 11, the numbers by which users know the refusals: 01, Refusal numbers
+--     Reply, refused           the two numbers, and those of a refusal
 --     outcomeReply, numberedReply      each answer as a reply
 -- Assumes nothing.
 use Prim.Native.Nat.{ℕ}
@@ -29,7 +28,7 @@ pub record Reply : Type 0 where
   pub refusal : ℕ
   pub value : ℕ
 
--- "A refusal returns its number and nothing else".
+-- Its number, and nothing besides.
 abbrev pub refused : Refusal → Reply
 refused f = record { refusal = refusalNumber f; value = 0 }
 
