@@ -8,6 +8,7 @@ pub mod NaturalNumbers
 pub mod Listing
 pub mod Steps
 pub mod Changes
+pub mod Prefixes
 pub mod Depths
 pub mod Meanings
 pub mod HandChecked

@@ -4,7 +4,7 @@
 --     pairs-all                                      what follows for any two entries follows for every two in order
 --     all-member, all-each                           what holds of all holds of each member, and the other way
 --     length-map, getD-map                           a mapped list, place by place
---     pairs-map                                      every two of a mapped list, from every two of the list
+--     all-mapped, pairs-map                          all and every two of a mapped list
 --     all-cross                                      what follows for an entry of each of two lists follows for all of both
 --     all-append, all-left, all-right                all entries of u ++ v are those of u and those of v
 --     pairs-append, pairs-left, pairs-right          the same for every two; pairs-append is told of those with one in u and one in v
@@ -70,6 +70,10 @@ module _ {A B : Type 0} (f : A → B) where
       mapped : (l : List A) → All P l → All (Q x) l → All (R (f x)) (map f l)
       mapped [] k c = tt
       mapped (y ∷ l) k c = (g x y (h .0) (k .0) (c .0), mapped l (k .1) (c .1))
+
+  pub all-mapped : (P : B → Type 0) → ((x : A) → P (f x)) → (l : List A) → All P (map f l)
+  all-mapped P g [] = tt
+  all-mapped P g (x ∷ l) = (g x, all-mapped P g l)
 
   pub length-map : (l : List A) → length (map f l) ≡ length l
   length-map [] = refl
