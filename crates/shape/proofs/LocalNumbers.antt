@@ -51,27 +51,27 @@ next-one i a b k v q h =
     rw (q, le-ltb k v h, fewer)
 
 -- w is a word with the number k
-abbrev pub Numbered : ℕ → ℕ → ℕ → List ℕ → Type 0
-Numbered e a k w = Word e a w × (localNumber w ≡ k)
+abbrev pub HasNumber : ℕ → ℕ → ℕ → List ℕ → Type 0
+HasNumber e a k w = Word e a w × (localNumber w ≡ k)
 
 -- the places worked out from k, with a ones and e + a zeros left, are such a word
 abbrev pub Placed : ℕ → Type 0
-Placed i = (e a b k : ℕ) → e + a ≡ b → a + b ≡ i → k < words (suc e) a → Numbered e a k (localPlaces i a b k)
+Placed i = (e a b k : ℕ) → e + a ≡ b → a + b ≡ i → k < words (suc e) a → HasNumber e a k (localPlaces i a b k)
 
 module _ (i : ℕ) (rest : Placed i) where
-  placed-zero : (e a b k : ℕ) → e + a ≡ b → a + b ≡ suc i → ways a (b - 1) ≡ words e a → k < words e a → Numbered e a k (localPlaces (suc i) a b k)
+  placed-zero : (e a b k : ℕ) → e + a ≡ b → a + b ≡ suc i → ways a (b - 1) ≡ words e a → k < words e a → HasNumber e a k (localPlaces (suc i) a b k)
   placed-zero zero zero b k hb hi q h = absurd (omega arith)
   placed-zero zero (suc a) b k hb hi q h = absurd (omega (arith, words-none a))
   placed-zero (suc e) a b k hb hi q h =
       let r = rest e a (b - 1) k (omega arith) (omega arith) h in
-      subst (Numbered (suc e) a k) (sym (next-zero i a b k (omega arith))) (zero-next (r .0), number-zero _ ∙ r .1)
+      subst (HasNumber (suc e) a k) (sym (next-zero i a b k (omega arith))) (zero-next (r .0), number-zero _ ∙ r .1)
 
   placed-one : (e a b k : ℕ) → e + a ≡ b → a + b ≡ suc i → ways a (b - 1) ≡ words e a → words e a ≤ k → k < words (suc e) a
-      → Numbered e a k (localPlaces (suc i) a b k)
+      → HasNumber e a k (localPlaces (suc i) a b k)
   placed-one e zero b k hb hi q h l = absurd (omega (arith, words-one e, words-one (suc e)))
   placed-one e (suc a) b k hb hi q h l =
       let r = rest (suc e) a b (k - words e (suc a)) (omega arith) (omega arith) (omega (arith, words-step e a)) in
-      subst (Numbered e (suc a) k) (sym (next-one i a b k (words e (suc a)) q h)) (one-next (r .0), number-one (r .0) ∙ omega (arith, r .1))
+      subst (HasNumber e (suc a) k) (sym (next-one i a b k (words e (suc a)) q h)) (one-next (r .0), number-one (r .0) ∙ omega (arith, r .1))
 
 placed-none : Placed 0
 unfolding localPlaces localNumber
@@ -88,7 +88,7 @@ places-numbered (suc i) e a b k hb hi hk = decide (decLt k (words e a)) (places-
     q : ways a (b - 1) ≡ words e a
     q = ways-words a (b - 1) e (omega arith)
 
-    decide : Dec (k < words e a) → Placed i → Numbered e a k (localPlaces (suc i) a b k)
+    decide : Dec (k < words e a) → Placed i → HasNumber e a k (localPlaces (suc i) a b k)
     decide (yes h) rest = placed-zero i rest e a b k hb hi q h
     decide (no h) rest = placed-one i rest e a b k hb hi q (omega arith) hk
 
@@ -134,5 +134,5 @@ local-lawful n =
           positioned localNumber p q (number-rises v w) (number-rises w v) (word-length v ∙ sym (word-length w));
     }
   where
-    placed : (k : ℕ) → k < C n → Numbered 0 n k (localPattern n k)
+    placed : (k : ℕ) → k < C n → HasNumber 0 n k (localPattern n k)
     placed k h = unfold localPattern in places-numbered (2 * n) 0 n n k (omega arith) (omega arith) (rw C-words at h)

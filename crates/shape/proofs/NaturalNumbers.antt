@@ -99,10 +99,10 @@ natural-number-below (node l r) =
 -- ---- trees from numbers
 
 -- t has n nodes and the number k
-abbrev Numbered : ℕ → ℕ → Tree → Type 0
-Numbered n k t = (size t ≡ n) × (naturalNumber t ≡ k)
+abbrev HasNumber : ℕ → ℕ → Tree → Type 0
+HasNumber n k t = (size t ≡ n) × (naturalNumber t ≡ k)
 
-empty-numbered : (n k : ℕ) → n ≡ 0 → k < C n → Numbered n k empty
+empty-numbered : (n k : ℕ) → n ≡ 0 → k < C n → HasNumber n k empty
 unfolding size naturalNumber
 empty-numbered n k e h = (sym e, let one : C 0 ≡ 1 = unfold C in refl in omega (arith, ap C e))
 
@@ -114,15 +114,15 @@ module _ (m k l : ℕ) (h : HasLeft m k l) (most : l ≤ m) where
   right-below : (k - fewerLeft m l) % C (m - l) < C (m - l)
   right-below = mod-lt (k - fewerLeft m l) (C-positive (m - l))
 
-  node-numbered : (x y : Tree) → Numbered l ((k - fewerLeft m l) / C (m - l)) x → Numbered (m - l) ((k - fewerLeft m l) % C (m - l)) y
-      → Numbered (suc m) k (node x y)
+  node-numbered : (x y : Tree) → HasNumber l ((k - fewerLeft m l) / C (m - l)) x → HasNumber (m - l) ((k - fewerLeft m l) % C (m - l)) y
+      → HasNumber (suc m) k (node x y)
   node-numbered x y nx ny =
       let sizes : size x + size y ≡ m = omega (arith, nx .0, ny .0) in
       let before : fewerLeft (size x + size y) (size x) ≡ fewerLeft m l = ap₂ fewerLeft sizes (nx .0) in
       let digits : naturalNumber x * C (size y) ≡ (k - fewerLeft m l) / C (m - l) * C (m - l) = ap₂ _*_ (nx .1) (ap C (ny .0)) in
       (node-size x y ∙ ap suc sizes, node-number x y ∙ omega (arith, div-add-mod' (k - fewerLeft m l) (C (m - l)), h .from, ny .1))
 
-tree-numbered : (d n k : ℕ) → n ≤ d → k < C n → Numbered n k (numberedTree d n k)
+tree-numbered : (d n k : ℕ) → n ≤ d → k < C n → HasNumber n k (numberedTree d n k)
 unfolding numberedTree
 tree-numbered zero n k h b = empty-numbered n k (omega arith) b
 tree-numbered (suc d) zero k h b = empty-numbered 0 k refl b

@@ -1,11 +1,13 @@
 -- The orders are total orders, and dictionary order of each form is its order of trees.
---     dictionary-irreflexive, dictionary-asymmetric, dictionary-compare
---     positioned              a number that follows dictionary order is the position in it
+--     dictionary-irreflexive, dictionary-transitive, dictionary-asymmetric, dictionary-compare
+--                                             dictionary order is a total order of the lists of one length
+--     positioned                              a number that follows dictionary order is the position in it
 --     local-total, natural-total              both orders of trees are total
 --     local-pattern, pattern-local            the local order is dictionary order of patterns of one size
+--     natural-size                            what stands first in the natural order is not larger
 --     natural-permutation, permutation-natural     the natural order is dictionary order of permutations of one size
 -- Assumes nothing.
-use mathlib.Core.Path.{_≡_, refl, sym, ap, _∙_, subst, subst₂}
+use mathlib.Core.Path.{_≡_, refl, sym, ap, ap₂, _∙_, subst, subst₂}
 use mathlib.Core.Logic.{_↔_}
 use mathlib.Core.List.{List, [], _∷_, _++_}
 use Prim.Native.Nat.{ℕ, zero, suc, _+_, _≤_, _<_}
@@ -32,6 +34,17 @@ only-before (before h) f g = h
 only-before (same e) f g = absurd (f e)
 only-before (after h) f g = absurd (g h)
 
+-- what is made of two parts is compared by the first part, and by the second where the first parts are the same
+by-parts : {A B C : Type 0} {R : A → A → Type 0} {S : B → B → Type 0} {Q : C → C → Type 0} (f : A → B → C) (a a′ : A) (b b′ : B)
+    → (R a a′ → Q (f a b) (f a′ b′)) → (R a′ a → Q (f a′ b′) (f a b))
+    → (a ≡ a′ → S b b′ → Q (f a b) (f a b′)) → (a ≡ a′ → S b′ b → Q (f a b′) (f a b))
+    → Comparison R a a′ → Comparison S b b′ → Comparison Q (f a b) (f a′ b′)
+by-parts f a a′ b b′ up down up′ down′ (before h) c = before (up h)
+by-parts {Q} f a a′ b b′ up down up′ down′ (same e) (before h) = subst (λ x. Comparison Q (f a b) (f x b′)) e (before (up′ e h))
+by-parts f a a′ b b′ up down up′ down′ (same e) (same d) = same (ap₂ f e d)
+by-parts {Q} f a a′ b b′ up down up′ down′ (same e) (after h) = subst (λ x. Comparison Q (f a b) (f x b′)) e (after (down′ e h))
+by-parts f a a′ b b′ up down up′ down′ (after h) c = after (down h)
+
 -- ---- dictionary order
 
 pub dictionary-irreflexive : {p : List ℕ} → Dictionary p p → ⊥
@@ -51,17 +64,8 @@ pub dictionary-compare : (p q : List ℕ) → length p ≡ length q → Comparis
 dictionary-compare [] [] h = same refl
 dictionary-compare [] (y ∷ q) h = absurd (omega arith)
 dictionary-compare (x ∷ p) [] h = absurd (omega arith)
-dictionary-compare (x ∷ p) (y ∷ q) h = decide (compare-numbers x y) (dictionary-compare p q (omega arith))
-  where
-    rest : Comparison Dictionary p q → Comparison Dictionary (x ∷ p) (x ∷ q)
-    rest (before d) = before (agree d)
-    rest (same e) = same (ap {B = List ℕ} (λ r. x ∷ r) e)
-    rest (after d) = after (agree d)
-
-    decide : Comparison _<_ x y → Comparison Dictionary p q → Comparison Dictionary (x ∷ p) (y ∷ q)
-    decide (before k) c = before (differ k)
-    decide (same e) c = subst (λ (z : ℕ). Comparison Dictionary (x ∷ p) (z ∷ q)) e (rest c)
-    decide (after k) c = after (differ k)
+dictionary-compare (x ∷ p) (y ∷ q) h =
+    by-parts _∷_ x y p q differ differ (λ e. agree) (λ e. agree) (compare-numbers x y) (dictionary-compare p q (omega arith))
 
 -- after a common beginning, and whatever follows
 common : (w : List ℕ) {p q : List ℕ} → Dictionary p q → Dictionary (w ++ p) (w ++ q)
@@ -113,17 +117,8 @@ local-compare : (s t : Tree) → Comparison Local s t
 local-compare empty empty = same refl
 local-compare empty (node l r) = before Local.empty-first
 local-compare (node l r) empty = after Local.empty-first
-local-compare (node l r) (node l′ r′) = decide (local-compare l l′) (local-compare r r′)
-  where
-    rest : Comparison Local r r′ → Comparison Local (node l r) (node l r′)
-    rest (before d) = before (Local.right-first d)
-    rest (same e) = same (ap (node l) e)
-    rest (after d) = after (Local.right-first d)
-
-    decide : Comparison Local l l′ → Comparison Local r r′ → Comparison Local (node l r) (node l′ r′)
-    decide (before d) c = before (Local.left-first d)
-    decide (same e) c = subst (λ (x : Tree). Comparison Local (node l r) (node x r′)) e (rest c)
-    decide (after d) c = after (Local.left-first d)
+local-compare (node l r) (node l′ r′) =
+    by-parts node l l′ r r′ Local.left-first Local.left-first (λ e. Local.right-first) (λ e. Local.right-first) (local-compare l l′) (local-compare r r′)
 
 pub local-total : TotalOrder Local
 local-total = record { irreflexive = λ t. local-irreflexive; transitive = λ s t u. local-transitive; compare = local-compare }
@@ -177,23 +172,15 @@ natural-compare (node l r) empty = after (Natural.smaller-first (empty-smaller l
 natural-compare (node l r) (node l′ r′) =
     decide (compare-numbers (size (node l r)) (size (node l′ r′))) (natural-compare l l′) (natural-compare r r′)
   where
-    right : size (node l r) ≡ size (node l r′) → Comparison Natural r r′ → Comparison Natural (node l r) (node l r′)
-    right e (before d) = before (Natural.right-first e d)
-    right e (same q) = same (ap (node l) q)
-    right e (after d) = after (Natural.right-first (sym e) d)
-
-    left : size (node l r) ≡ size (node l′ r′) → Comparison Natural l l′ → Comparison Natural r r′
-        → Comparison Natural (node l r) (node l′ r′)
-    left e (before d) c = before (Natural.left-first e d)
-    left e (same q) c =
-        subst (λ (x : Tree). Comparison Natural (node l r) (node x r′)) q
-        (right (e ∙ ap (λ (x : Tree). size (node x r′)) (sym q)) c)
-    left e (after d) c = after (Natural.left-first (sym e) d)
+    sizes : size (node l r) ≡ size (node l′ r′) → l ≡ l′ → size (node l r) ≡ size (node l r′)
+    sizes e q = e ∙ ap (λ (x : Tree). size (node x r′)) (sym q)
 
     decide : Comparison _<_ (size (node l r)) (size (node l′ r′)) → Comparison Natural l l′ → Comparison Natural r r′
         → Comparison Natural (node l r) (node l′ r′)
     decide (before h) b c = before (Natural.smaller-first h)
-    decide (same e) b c = left e b c
+    decide (same e) b c =
+        by-parts node l l′ r r′ (Natural.left-first e) (Natural.left-first (sym e))
+        (λ q. Natural.right-first (sizes e q)) (λ q. Natural.right-first (sym (sizes e q))) b c
     decide (after h) b c = after (Natural.smaller-first h)
 
 pub natural-total : TotalOrder Natural

@@ -2,18 +2,30 @@
 ghost use mathlib.Core.Path.{_≡_};
 ghost use Rattle.shape.specs.Reply.{refusalNumber};
 
-// Why a call refuses, in the order of document 01's table, 1 to 11.
+// Why a call refuses, in the order of the refusals' numbers, 1 to 11. Where several apply, a call gives the first, but for the
+// exceptions that the scope lists.
 pub enum Refusal {
+    // 0 or above 35
     Size,
+    // a lent slice is not as long as the size asks
     Length,
+    // a place above 1, an entry outside 1..n or seen earlier
     Entry,
+    // no feasible pattern, no tree permutation
     Shape,
+    // C(n) or more
     Number,
+    // no successor
     Last,
+    // no predecessor
     First,
+    // a run that ends before it starts or after the last shape
     Range,
+    // a run's state whose parts do not belong together
     State,
+    // no packed record
     Record,
+    // no sheet can be asked for so
     Input,
 }
 
