@@ -13,17 +13,18 @@
 --     segner               C(n+1) = the sum of C(j)·C(n-j) for j ≤ n
 --     prefixes-words       the prefixes are one less than the words of 0 to a+1 nodes
 --     prefixes-total       C(1) + .. + C(n+1), the prefixes of the patterns of size n, the empty one included
+--     total-fits           which fits 64 bits up to the largest size
 -- Assumes nothing.
 use mathlib.Core.Path.{_≡_, refl, sym, ap, _∙_, subst}
 use Prim.Native.Nat.{ℕ, zero, suc, _+_, _-_, _*_, _/_, _≤_, _<_, _^_}
 use native.Mathlib.Nat.{mul-le-mul-right, eq-or-lt-of-le, suc-add, add-suc, zero-add, eq-of-mul-eq-mul-left}
-use native.Mathlib.Nat.{le-of-mul-le-mul-left, sub-eq-zero-of-le, mul-div-cancel-left, le-trans}
+use native.Mathlib.Nat.{le-of-mul-le-mul-left, sub-eq-zero-of-le, mul-div-cancel-left, le-trans, lt-of-le-of-lt}
 use native.Mathlib.Omega.{arith}
 use native.Mathlib.Decide.{decLe}
 use mathlib.Core.Logic.{inl, inr}
 use lib.Dec.{lit<, lit≤}
 use Rattle.catalan.specs.Count.{C, largestSize, binom, binomBefore, ways, words, prefixes, sum}
-use Rattle.catalan.proofs.Sums.{sum-last, sum-front, sum-plus, sum-cong, conv, conv-sum, conv-plus, conv-none}
+use Rattle.catalan.proofs.Sums.{sum-last, sum-rises, sum-front, sum-plus, sum-cong, conv, conv-sum, conv-plus, conv-none}
 use Rattle.catalan.proofs.Binomials.{binom-next, binom-absorb, binom-pascal, binom-mirror}
 
 pub words-one : (m : ℕ) → words m 0 ≡ 1
@@ -227,3 +228,10 @@ pub prefixes-total : (n : ℕ) → prefixes 1 n ≡ sum (suc n) (λ k. C (suc k)
 prefixes-total n =
     let same : sum (suc n) (λ k. words 1 (suc k)) ≡ sum (suc n) (λ k. C (suc k)) = sum-cong (suc n) _ _ (λ j l. sym (C-words (suc j))) in
     omega (arith, prefixes-words n 1, sum-front (suc n) (words 1), words-one 1)
+
+-- the figure of a whole size fits 64 bits, up to the largest size
+pub total-fits : (n : ℕ) → n ≤ largestSize → sum (suc n) (λ k. C (suc k)) < 2 ^ 64
+total-fits n h = lt-of-le-of-lt (sum-rises (λ k. C (suc k)) (omega arith)) largest
+  where
+    largest : sum (largestSize + 1) (λ k. C (suc k)) < 2 ^ 64
+    largest = unfold C sum in lit< tt

@@ -4,8 +4,8 @@
 --     sum-split       the first m terms, and then the n after them
 --     sum-plus        the sum of sums
 --     sum-cong        equal terms, equal sums
---     sum-most        terms of at most 1 sum to at most their number
---     conv            the convolution of two sequences, and conv-sum, that it is a sum of products
+--     conv, conv-sum  the convolution of two sequences, and that it is a sum of products
+--     conv-plus, conv-none     of a sum of sequences, and of a sequence of zeros
 -- Assumes nothing.
 use mathlib.Core.Path.{_≡_, refl, sym, ap, _∙_}
 use Prim.Native.Nat.{ℕ, zero, suc, _+_, _-_, _*_, _≤_, _<_}
@@ -43,11 +43,6 @@ pub sum-cong : (n : ℕ) (f g : ℕ → ℕ) → ((j : ℕ) → j < n → f j �
 unfolding sum
 sum-cong zero f g h = refl
 sum-cong (suc n) f g h = omega (arith, sum-cong n f g (λ j l. h j (omega arith)), h n (omega arith))
-
-pub sum-most : (n : ℕ) (f : ℕ → ℕ) → ((j : ℕ) → f j ≤ 1) → sum n f ≤ n
-unfolding sum
-sum-most zero f h = omega arith
-sum-most (suc n) f h = omega (arith, sum-most n f h, h n)
 
 -- f 0 * g a + f 1 * g (a - 1) + .. + f a * g 0
 unfoldable pub conv : (ℕ → ℕ) → (ℕ → ℕ) → ℕ → ℕ

@@ -2,7 +2,6 @@
 --     depth-..          01's sheet and T-04: the prefix excess
 --     figure-..         004, figure 2: a tree of seven nodes and its permutation
 --     not-..            01's edges: 100110 is not feasible, 2,3,1 and 2,2,1 are no tree permutations
---     table-..          01: C(35) and C(36)
 -- Assumes nothing.
 use mathlib.Core.Path.{_≡_, refl}
 use mathlib.Core.List.{[], _∷_}
