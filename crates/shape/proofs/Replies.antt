@@ -2,6 +2,8 @@
 --     refusal-known       no two refusals have one number
 --     refusal-least, refusal-most      the numbers are 1 to 11
 --     outcome-known, numbered-known    no two answers have one reply
+--     outcome-silent, refused-silent   the value is 0 where there is nothing to say
+--     done-accepted, value-accepted    the refusal's number is 0 where nothing is refused
 -- Assumes nothing.
 use mathlib.Core.Path.{_≡_, refl, sym, ap, _∙_}
 use mathlib.Core.List.{List, [], _∷_}
@@ -62,3 +64,18 @@ numbered-known (Value j) (Value k) e = ap Value (ap (λ (y : Reply). y .value) e
 numbered-known (Value j) (NotNumbered f) e = absurd (omega (arith, same-refusal e, refusal-least f))
 numbered-known (NotNumbered f) (Value k) e = absurd (omega (arith, same-refusal e, refusal-least f))
 numbered-known (NotNumbered f) (NotNumbered g) e = ap NotNumbered (refusal-known f g (same-refusal e))
+
+-- where there is nothing to say, 0 is said
+pub outcome-silent : (r : Outcome) → outcomeReply r .value ≡ 0
+outcome-silent Done = refl
+outcome-silent (Refused f) = refl
+
+pub refused-silent : (f : Refusal) → numberedReply (NotNumbered f) .value ≡ 0
+refused-silent f = refl
+
+-- and what is done or counted is no refusal
+pub done-accepted : outcomeReply Done .refusal ≡ 0
+done-accepted = refl
+
+pub value-accepted : (k : ℕ) → numberedReply (Value k) .refusal ≡ 0
+value-accepted k = refl
