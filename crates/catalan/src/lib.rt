@@ -1,5 +1,5 @@
-// The numbers: the table of the Catalan numbers, and the ways to finish a pattern, one row of them held at a time. A whole triangle of
-// counts would be no faster. The crate stands below the calls, so its functions may have a `requires`, which the calls' own checks meet.
+// The numbers: the table of the Catalan numbers, and the ways to finish a pattern, one row of them held at a time, so that a call needs
+// little stack. The crate stands below the calls: its functions may have a `requires`, which the calls' own checks meet.
 ghost use mathlib.Core.Path.{_≡_};
 ghost use Prim.Native.Nat.{_+_, _-_, _≤_, _<_};
 ghost use lib.ListN.{length};
@@ -65,7 +65,7 @@ pub fn catalan(n: usize) -> u64
 }
 
 // From the row of `zeros` to the next. Upward, since an entry is its own old value and its neighbour's new one. Past the diagonal both
-// rows are 0. The bound: a row has 36 entries, and from 37 zeros on counts pass 64 bits.
+// rows are 0. The bound: a row has 36 entries, and up to 35 zeros every count fits 64 bits (`ways-fit`).
 pub fn grow(zeros: usize, row: &mut [u64])
     requires { ⌜ (zeros < 35) × (now row ≡ rowOf zeros) ⌝ }
     ensures { λ _. ⌜ now (row .exit) ≡ rowOf (zeros + 1) ⌝ }
@@ -89,7 +89,7 @@ pub fn shrink(zeros: usize, row: &mut [u64])
     }
 }
 
-// The row of no zeros, from which every other grows: with no one left there is one way, and none otherwise.
+// The row of no zeros, from which every other grows: one way with no ones left, and none with any.
 fn clear(row: &mut [u64])
     requires { ⌜ length (now row) ≡ 36 ⌝ }
     ensures { λ _. ⌜ now (row .exit) ≡ rowOf 0 ⌝ }

@@ -1,14 +1,45 @@
 -- Worked examples of document 01 and the papers, computed from the definitions.
---     depth-..          01's sheet and T-04: the prefix excess
+--     local-.., natural-..     lines 4 and 5, and lines 9 and 10, which the two orders list the other way round
+--     depth-..          the prefix excess of three shapes of size 3
 --     figure-..         004, figure 2: a tree of seven nodes and its permutation
 --     not-..            01's edges: 100110 is not feasible, 2,3,1 and 2,2,1 are no tree permutations
 -- Assumes nothing.
 use mathlib.Core.Path.{_≡_, refl}
 use mathlib.Core.List.{[], _∷_}
 use native.Mathlib.Omega.{arith}
+use lib.Dec.{lit<}
 use Rattle.shape.specs.Tree.{Tree, empty, node, size, permutation, permutationFrom}
 use Rattle.shape.specs.Form.{count, below, cutTree, permutationTree, Feasible, TreePermutation}
+use Rattle.shape.specs.Order.{Local, Natural}
 use Rattle.shape.specs.Number.{largest, depth}
+
+-- a node with no parts, and the shapes of lines 4, 5, 9 and 10
+abbrev leaf : Tree
+leaf = node empty empty
+
+abbrev line4 : Tree
+line4 = node empty (node empty leaf)
+
+abbrev line5 : Tree
+line5 = node empty (node leaf empty)
+
+abbrev line9 : Tree
+line9 = node line4 empty
+
+abbrev line10 : Tree
+line10 = node (node leaf empty) leaf
+
+local-4-5 : Local line4 line5
+local-4-5 = Local.right-first (Local.left-first Local.empty-first)
+
+local-9-10 : Local line9 line10
+local-9-10 = Local.left-first (Local.left-first Local.empty-first)
+
+natural-4-5 : Natural line4 line5
+natural-4-5 = unfold size in Natural.right-first refl (Natural.left-first refl (Natural.smaller-first (lit< tt)))
+
+natural-10-9 : Natural line10 line9
+natural-10-9 = unfold size in Natural.left-first refl (Natural.smaller-first (lit< tt))
 
 depth-101010 : depth (1 ∷ 0 ∷ 1 ∷ 0 ∷ 1 ∷ 0 ∷ []) ≡ 1
 unfolding depth largest count
@@ -22,12 +53,7 @@ depth-111000 : depth (1 ∷ 1 ∷ 1 ∷ 0 ∷ 0 ∷ 0 ∷ []) ≡ 3
 unfolding depth largest count
 depth-111000 = refl
 
--- a node with no parts
-leaf : Tree
-leaf = node empty empty
-
 figure : Tree
-unfolding leaf
 figure = node (node leaf (node empty leaf)) (node leaf empty)
 
 figure-written : permutation figure ≡ 5 ∷ 2 ∷ 1 ∷ 3 ∷ 4 ∷ 7 ∷ 6 ∷ []

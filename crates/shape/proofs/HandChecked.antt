@@ -11,7 +11,7 @@ use Rattle.shape.specs.Tree.{Tree, size, pattern, permutation, permutati
 use Rattle.shape.specs.Form.{count, forest, patternTree}
 use Rattle.shape.specs.Number.{localNumber, localPlaces, localPattern, fewerLeft, naturalNumber, firstDifference, change}
 use Rattle.shape.specs.Lines.{Line, lines, Holds}
-use Rattle.shape.proofs.Lists.{All}
+use Rattle.shape.specs.Every.{All}
 
 -- every test of a list passes, so each does
 abbrev every : List Bool → Bool

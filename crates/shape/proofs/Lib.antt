@@ -1,3 +1,4 @@
+pub mod Examples
 pub mod Lists
 pub mod Patterns
 pub mod Permutations
@@ -12,6 +13,5 @@ pub mod Prefixes
 pub mod Depths
 pub mod Meanings
 pub mod HandChecked
-pub mod Examples
 pub mod Replies
 pub mod Determined

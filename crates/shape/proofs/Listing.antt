@@ -18,7 +18,8 @@ use Rattle.shape.specs.Tree.{Tree, size}
 use Rattle.shape.specs.Form.{Faithful}
 use Rattle.shape.specs.Order.{Dictionary}
 use Rattle.shape.specs.Numbering.{Numbering, total, WellFormed, Lawful, numbersFrom, listOf, treesOf}
-use Rattle.shape.proofs.Lists.{All, Pairs, all-map, all-member, all-each, pairs-weaken, pairs-map, length-map, getD-map}
+use Rattle.shape.specs.Every.{All, Pairs}
+use Rattle.shape.proofs.Lists.{all-map, all-member, all-each, pairs-weaken, pairs-map, length-map, getD-map}
 use Rattle.shape.proofs.Orders.{dictionary-irreflexive}
 
 -- ---- numbers

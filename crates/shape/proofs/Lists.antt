@@ -1,7 +1,6 @@
--- What holds of every entry of a list, and of every two and every three of them in the order in which they stand.
---     All P l, Pairs R l, Triples T l                by recursion on the list
+-- Laws of what holds of every entry of a list, of every two and of every three (All, Pairs, Triples).
 --     all-map, all-both                              what follows for each entry, from one fact or from two, follows for all
---     pairs-all                                      what follows for any two entries follows for every two in order
+--     pairs-all, pairs-weaken                        what follows for any two entries, or from every two, follows for every two in order
 --     all-member, all-each                           what holds of all holds of each member, and the other way
 --     length-map, getD-map                           a mapped list, place by place
 --     all-mapped, pairs-map                          all and every two of a mapped list
@@ -17,20 +16,9 @@ use mathlib.Core.List.{List, [], _∷_, _++_, map, List·Memᴰ, List·Memᴰ·h
 use Prim.Native.Nat.{ℕ, zero, suc, _<_}
 use native.Mathlib.Omega.{arith}
 use lib.ListN.{length, getD}
+use Rattle.shape.specs.Every.{All, Pairs, Triples}
 
 module _ {A : Type 0} where
-  abbrev pub All : (A → Type 0) → List A → Type 0
-  All P [] = Unit
-  All P (x ∷ l) = P x × All P l
-
-  abbrev pub Pairs : (A → A → Type 0) → List A → Type 0
-  Pairs R [] = Unit
-  Pairs R (x ∷ l) = All (R x) l × Pairs R l
-
-  abbrev pub Triples : (A → A → A → Type 0) → List A → Type 0
-  Triples T [] = Unit
-  Triples T (x ∷ l) = Pairs (T x) l × Triples T l
-
   -- ---- consequences
 
   pub all-map : {P Q : A → Type 0} → ((x : A) → P x → Q x) → (l : List A) → All P l → All Q l

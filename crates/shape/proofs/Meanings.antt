@@ -1,4 +1,4 @@
--- The theorems about the meanings, for every size, as a reader of document 01 would say them. Each is a law of the other files at one of
+-- The theorems about the meanings, for every size, as a reader of the scope would say them. Each is a law of the other files at one of
 -- the two forms and orders; that both orders are total, and the changes of a whole size, stand in `Orders` and `Changes`.
 --     pattern-written, permutation-written     a list is well formed exactly when some tree of that size is written so
 --     pattern-one, permutation-one             no two trees are written alike
@@ -8,16 +8,14 @@
 -- Assumes nothing.
 use mathlib.Core.Path.{_≡_, subst₂}
 use mathlib.Core.Logic.{_↔_}
-use mathlib.Core.List.{List, List·Memᴰ}
+use mathlib.Core.List.{List}
 use Prim.Native.Nat.{ℕ, _<_}
-use lib.ListN.{length}
 use Rattle.catalan.specs.Count.{C}
 use Rattle.shape.specs.Tree.{Tree, size, pattern, permutation}
 use Rattle.shape.specs.Form.{Feasible, TreePermutation, patternTree, patterns, permutations, Faithful}
 use Rattle.shape.specs.Order.{Local, Natural, Dictionary}
 use Rattle.shape.specs.Number.{localNumber, localPattern, naturalNumber, naturalTree}
-use Rattle.shape.specs.Numbering.{Numbering, Lawful, local, natural, treesOf}
-use Rattle.shape.proofs.Lists.{Pairs}
+use Rattle.shape.specs.Numbering.{Numbering, Lawful, EachOnce, local, natural}
 use Rattle.shape.proofs.Forms.{written, write-injective}
 use Rattle.shape.proofs.Patterns.{patterns-faithful}
 use Rattle.shape.proofs.Permutations.{permutation-read, permutations-faithful}
@@ -58,12 +56,6 @@ natural-position n k t h e =
     (position-tree (natural n) permutations-faithful (natural-lawful n) k t h e)
 
 -- ---- the list
-
-pub record EachOnce (N : Numbering) : Type 0 where
-  pub as-many : length (treesOf N) ≡ C (N .nodes)
-  pub each : (t : Tree) → (size t ≡ N .nodes) ↔ List·Memᴰ t (treesOf N)
-  pub once : Pairs (λ s t. s ≡ t → ⊥) (treesOf N)
-  pub in-order : Pairs (N .Before) (treesOf N)
 
 each-once : (N : Numbering) → Faithful (N .form) → Lawful N → EachOnce N
 each-once N f l = record { as-many = length-trees N f l; each = trees-listed N f l; once = trees-differ N f l; in-order = trees-rise N f l }

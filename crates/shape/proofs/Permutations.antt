@@ -16,7 +16,8 @@ use lib.Seq.{take-at, drop-at}
 use borrow.Author.Tests.{lt-ltb, le-ltb}
 use Rattle.shape.specs.Tree.{Tree, empty, node, size, permutation, permutationFrom}
 use Rattle.shape.specs.Form.{below, cutTree, permutationTree, TreePermutation, permutations, Faithful}
-use Rattle.shape.proofs.Lists.{All, Pairs, Triples, all-map, all-both, pairs-all, all-cross}
+use Rattle.shape.specs.Every.{All, Pairs, Triples}
+use Rattle.shape.proofs.Lists.{all-map, all-both, pairs-all, all-cross}
 use Rattle.shape.proofs.Lists.{all-append, pairs-append, triples-append}
 use Rattle.shape.proofs.Lists.{all-left, pairs-left, triples-left, all-right, pairs-right, triples-right}
 use Rattle.shape.proofs.Lists.{all-at, pairs-at, triples-at, all-of, pairs-of, triples-of}
@@ -235,7 +236,7 @@ permutation-formed t =
       entries = length-permutation 0 t;
       least = all-at _ p (labels-above h);
       most = all-at (λ x. x ≤ size t) p (all-map (λ x l. omega arith) p (labels-below h));
-      distinct = pairs-at Differ p (h .differ);
+      distinct = λ i j a l. pairs-at Differ p (h .differ) i j (omega arith) l;
       avoids = triples-at Avoid p (h .avoid);
     }
 

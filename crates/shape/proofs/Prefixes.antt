@@ -16,7 +16,8 @@ use Rattle.catalan.specs.Count.{prefixes}
 use Rattle.catalan.proofs.Counting.{words-positive}
 use Rattle.shape.specs.Form.{Feasible}
 use Rattle.shape.specs.Number.{localPlaces}
-use Rattle.shape.proofs.Lists.{All, Pairs, all-each, all-append, all-cross, all-mapped, pairs-append, pairs-map, length-map}
+use Rattle.shape.specs.Every.{All, Pairs}
+use Rattle.shape.proofs.Lists.{all-each, all-append, all-cross, all-mapped, pairs-append, pairs-map, length-map}
 use Rattle.shape.proofs.Patterns.{Word, done, zero-next, one-next, feasible-word, word-feasible}
 use Rattle.shape.proofs.LocalNumbers.{places-numbered}
 

@@ -3,7 +3,9 @@
 --     below x p                how many entries of p are less than x
 --     Feasible n p             p is a feasible pattern of size n
 --     TreePermutation n p      p is a tree permutation of size n
---     patternTree, permutationTree     the tree that is written so; of a list that is not well formed they say nothing
+--     patternTree p            the tree with pattern p, by the trees that its last places complete (forest, joined)
+--     permutationTree p        the tree with permutation p, cut at its first entry (cutTree)
+--                              (of a list that is not well formed these two say nothing)
 --     Form                     a form: what is well formed, and the tree there and back; `patterns` and `permutations` are the two
 --     Faithful F               the form F is one to one with trees
 -- Assumes nothing.

@@ -1,4 +1,5 @@
 pub mod Tree
+pub mod Every
 pub mod Form
 pub mod Order
 pub mod Number

@@ -6,13 +6,16 @@
 --     next, previous         one step along a numbering
 --     numbersFrom            so many numbers, from one on
 --     listOf, treesOf        the whole list of shapes in order, as lists and as trees
+--     EachOnce               the list has each tree of the size exactly once, in order
 -- Assumes nothing.
 use mathlib.Core.Path.{_≡_}
 use mathlib.Core.Logic.{_↔_}
-use mathlib.Core.List.{List, [], _∷_, map}
+use mathlib.Core.List.{List, [], _∷_, map, List·Memᴰ}
 use Prim.Native.Nat.{ℕ, zero, suc, _+_, _-_, _<_}
+use lib.ListN.{length}
 use Rattle.catalan.specs.Count.{C}
 use Rattle.shape.specs.Tree.{Tree, size, permutation}
+use Rattle.shape.specs.Every.{Pairs}
 use Rattle.shape.specs.Form.{Form, patterns, permutations, permutationTree}
 use Rattle.shape.specs.Order.{Local, Natural, Dictionary}
 use Rattle.shape.specs.Number.{localNumber, localPattern, naturalNumber, naturalTree}
@@ -68,3 +71,10 @@ listOf N = map (N .shape) (numbersFrom 0 (total N))
 
 unfoldable pub treesOf : Numbering → List Tree
 treesOf N = map (N .form .read) (listOf N)
+
+-- The trees of the size are all there, none twice, each before the next.
+pub record EachOnce (N : Numbering) : Type 0 where
+  pub as-many : length (treesOf N) ≡ total N
+  pub each : (t : Tree) → (size t ≡ N .nodes) ↔ List·Memᴰ t (treesOf N)
+  pub once : Pairs (λ s t. s ≡ t → ⊥) (treesOf N)
+  pub in-order : Pairs (N .Before) (treesOf N)

@@ -2,7 +2,7 @@
 --     Local          the order in which patterns are numbered: 01, Two orders; 001, definition 2
 --     Natural        the order in which permutations are numbered: 01, Two orders; 004, section 1; 001, definition 1
 --     Dictionary     dictionary order of lists of one length
---     TotalOrder     of any two things one stands before the other, or they are the same
+--     TotalOrder     of any two things one stands before the other, or they are the same (Comparison)
 -- Assumes nothing.
 use mathlib.Core.Path.{_≡_}
 use mathlib.Core.List.{List, _∷_}

@@ -19,13 +19,13 @@ pub enum Refusal {
     Last,
     // no predecessor
     First,
-    // a run that ends before it starts or after the last shape
+    // a run that ends before it starts or past the last shape
     Range,
     // a run's state whose parts do not belong together
     State,
     // no packed record
     Record,
-    // no sheet can be asked for so
+    // no line that asks for a sheet
     Input,
 }
 
