@@ -6,6 +6,7 @@
 --     grow-..                  upward from the row of z to the row of z + 1: entry a gains the entry before it
 --     shrink-..                downward from the row of z to the row of z - 1: entry a loses the entry before it
 --     clear-..                 upward, the row of no zeros over any list of 36 entries
+--     row-start                the row of no zeros is 1 and then zeros
 --     fill-end                 the last of the rows that were grown is the one asked for
 -- Of a loop: -begin is what holds at its start, -turn what one turn makes, -end what it leaves; -fits and -holds, that a turn's sum or
 -- difference does not wrap.
@@ -15,8 +16,8 @@ use mathlib.Core.List.{List}
 use Prim.Native.Nat.{ℕ, zero, suc, _+_, _-_, _≤_, _<_, _^_}
 use native.Mathlib.Nat.{suc-sub-suc, sub-zero}
 use native.Mathlib.Omega.{arith}
-use lib.ListN.{length, getD, set, length-set}
-use lib.Seq.{getD-set-same}
+use lib.ListN.{length, getD, set, replicate, length-set, length-replicate, getD-replicate}
+use lib.Seq.{getD-set-same, getD-set-other}
 use mir.Syntax.{w64}
 use mir.Val.{Fits}
 use Rattle.catalan.specs.Count.{ways, words}
@@ -131,6 +132,20 @@ module _ (a : ℕ) (old row : List ℕ) (e : row ≡ seam a (rowOf 0) old) (long
 
   pub clear-end : length row ≤ a → row ≡ rowOf 0
   clear-end h = e ∙ seam-whole a (rowOf 0) old as-long (λ i l m. absurd (omega (arith, row-length 0)))
+
+pub row-start : set (replicate 36 0) 0 1 ≡ rowOf 0
+row-start = clear-begin old long ∙ seam-whole 1 (rowOf 0) (set old 0 1) (row-length 0) zeros
+  where
+    old : List ℕ
+    old = replicate 36 0
+
+    long : length old ≡ 36
+    long = length-replicate {A = ℕ} 36 0
+
+    zeros : (i : ℕ) → 1 ≤ i → i < length (rowOf 0) → getD (rowOf 0) i 0 ≡ getD (set old 0 1) i 0
+    zeros i low on =
+        let within : i < 36 = omega (arith, row-length 0) in
+        row-past 0 i low within ∙ sym (getD-set-other old 0 i 1 0 (λ e. omega arith) ∙ getD-replicate {A = ℕ} 36 i 0 0 within)
 
 -- ---- from row to row
 

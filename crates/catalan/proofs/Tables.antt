@@ -2,6 +2,7 @@
 --     length-tabulate    a table of n entries has n entries
 --     tabulate-at        the entry at i is f i
 --     table-rule         (k+2)·C(k+1) = (4k+2)·C(k) holds between neighbours of the table
+--     table-within       within the table, `tableAt` is C
 --     table-entry        within the table, `tableAt` is the table's entry
 --     table-past         past the table, `tableAt` is 0
 -- Assumes nothing.
@@ -33,9 +34,12 @@ catalans-at k h = unfold catalans in tabulate-at 37 C k (omega arith)
 pub table-rule : (k : ℕ) → k < 36 → (k + 2) * getD catalans (suc k) 0 ≡ (4 * k + 2) * getD catalans k 0
 table-rule k h = rw (catalans-at (suc k) h, catalans-at k (omega arith)) (C-rule k)
 
-pub table-entry : (n : ℕ) (table : List ℕ) → table ≡ catalans → n ≤ 36 → getD table n 0 ≡ tableAt n
+pub table-within : (n : ℕ) → n ≤ 36 → tableAt n ≡ C n
 unfolding tableAt
-table-entry n table e h = rw (e, le-leb n 36 h) (catalans-at n h)
+table-within n h = rw (le-leb n 36 h)
+
+pub table-entry : (n : ℕ) (table : List ℕ) → table ≡ catalans → n ≤ 36 → getD table n 0 ≡ tableAt n
+table-entry n table e h = rw (e, table-within n h) (catalans-at n h)
 
 pub table-past : (n : ℕ) → 36 < n → 0 ≡ tableAt n
 unfolding tableAt
