@@ -1,4 +1,5 @@
 -- The change of a pattern, and the changes of a whole size.
+--     difference-here, difference-later      two lists differ first at the first place, or one place later than without it
 --     first-difference       what the first difference of two lists in order is: before it they agree, there they differ
 --     change-places          the change counts the places from the first difference to the end
 --     change-least, change-most      it is at least 1 and at most 2n
@@ -19,7 +20,7 @@ use Rattle.shape.specs.Order.{Dictionary, differ, agree}
 use Rattle.shape.specs.Number.{localPlaces, localPattern, firstDifference, change}
 use Rattle.shape.specs.Numbering.{local}
 use Rattle.shape.proofs.Listing.{shape-before}
-use Rattle.shape.proofs.Patterns.{feasible-word, word-length}
+use Rattle.shape.proofs.Patterns.{feasible-length}
 use Rattle.shape.proofs.LocalNumbers.{next-zero, next-one, local-lawful}
 
 -- ---- the first difference
@@ -30,11 +31,11 @@ pub record DifferAt (p q : List ℕ) (i : ℕ) : Type 0 where
   pub agrees : take i p ≡ take i q
   pub differs : getD p i 0 < getD q i 0
 
-difference-here : (x y : ℕ) (p q : List ℕ) → x < y → firstDifference (x ∷ p) (y ∷ q) ≡ 1
+pub difference-here : (x y : ℕ) (p q : List ℕ) → x < y → firstDifference (x ∷ p) (y ∷ q) ≡ 1
 unfolding firstDifference
 difference-here x y p q h = rw (ne-eqb x y (λ e. omega arith))
 
-difference-later : (x : ℕ) (p q : List ℕ) → firstDifference (x ∷ p) (x ∷ q) ≡ suc (firstDifference p q)
+pub difference-later : (x : ℕ) (p q : List ℕ) → firstDifference (x ∷ p) (x ∷ q) ≡ suc (firstDifference p q)
 unfolding firstDifference
 difference-later x p q = rw (eq-eqb x x refl)
 
@@ -50,7 +51,7 @@ first-difference (agree {x} {p} {q} d) =
 -- ---- one change
 
 length-local : (n k : ℕ) → k < C n → length (localPattern n k) ≡ 2 * n
-length-local n k h = omega (arith, word-length (feasible-word (local-lawful n .shape-formed k h)))
+length-local n k h = feasible-length n (localPattern n k) (local-lawful n .shape-formed k h)
 
 neighbours : (n k : ℕ) → suc k < C n → Dictionary (localPattern n k) (localPattern n (suc k))
 neighbours n k h = shape-before (local n) (local-lawful n) k (suc k) (omega arith) h (omega arith)

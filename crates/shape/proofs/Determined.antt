@@ -1,18 +1,10 @@
 -- The contract of `Refusal::number` determines its answer and asks nothing.
 -- Assumes nothing.
-use mathlib.Core.Path.{refl}
+use mathlib.Core.Logic.{Iff·rfl}
+use Prim.Native.Nat.{ℕ}
 use Rattle.shape.specs.Reply.{refusalNumber}
-use Rattle.shape.specs.Determined.{Fixes, Says, Allows, AsksNothing, says-fixes}
+use Rattle.shape.specs.Determined.{Determined, determined}
 use Rattle.shape.proofs.Refusal.number.Reads as number
 
-pub number-says : Says number.Post (λ κ a. refusalNumber (a .0))
-number-says κ a r s p = p
-
-pub number-allows : Allows number.Post (λ κ a. refusalNumber (a .0))
-number-allows κ a s = refl
-
-pub number-fixes : Fixes number.Post
-number-fixes = says-fixes number-says
-
-pub number-asks-nothing : AsksNothing number.Pre
-number-asks-nothing κ a = tt
+pub number-determined : Determined ℕ number.Pre number.Post (λ κ r s. r) (λ κ a. refusalNumber (a .0))
+number-determined = determined (λ κ a. tt) (λ κ a r s. Iff·rfl)

@@ -1,8 +1,10 @@
 pub mod Examples
 pub mod Lists
+pub mod Counts
 pub mod Patterns
 pub mod Permutations
 pub mod Forms
+pub mod Tests
 pub mod Orders
 pub mod LocalNumbers
 pub mod NaturalNumbers
@@ -10,8 +12,11 @@ pub mod Listing
 pub mod Steps
 pub mod Changes
 pub mod Prefixes
-pub mod Depths
+pub mod Excess
 pub mod Meanings
 pub mod HandChecked
 pub mod Replies
+pub mod Checks
+pub mod Answers
+pub mod Returns
 pub mod Determined

@@ -1,4 +1,5 @@
 -- Numbers in the local order: the number is the position.
+--     number-one, number-zero      what a 1 and a 0 in front add to a number
 --     word-number-below       a word's number is below the number of words
 --     next-zero, next-one     the next place worked out from a number
 --     places-numbered         the places worked out from a number are a word with that number
@@ -22,14 +23,14 @@ use Rattle.shape.proofs.Orders.{positioned, local-pattern, pattern-loca
 use Rattle.shape.proofs.Patterns.{Word, done, zero-next, one-next, word-ones, word-zeros, word-length, feasible-word, word-feasible}
 
 -- what a 1 adds: the words that have a 0 in its place
-number-one : {e a : ℕ} {w : List ℕ} → Word (suc e) a w → localNumber (1 ∷ w) ≡ words e (suc a) + localNumber w
+pub number-one : {e a : ℕ} {w : List ℕ} → Word (suc e) a w → localNumber (1 ∷ w) ≡ words e (suc a) + localNumber w
 unfolding localNumber
 number-one {e} {a} {w} r =
     let ones = word-ones r in
     let zeros = word-zeros r in
     ap (λ (z : ℕ). z + localNumber w) (ways-words (suc (count 1 w)) (count 0 w - 1) e (omega arith) ∙ ap (λ (z : ℕ). words e (suc z)) ones)
 
-number-zero : (w : List ℕ) → localNumber (0 ∷ w) ≡ localNumber w
+pub number-zero : (w : List ℕ) → localNumber (0 ∷ w) ≡ localNumber w
 unfolding localNumber
 number-zero w = refl
 

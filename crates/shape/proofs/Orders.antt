@@ -1,6 +1,7 @@
 -- The orders are total orders, and dictionary order of each form is its order of trees.
 --     dictionary-irreflexive, dictionary-transitive, dictionary-asymmetric, dictionary-compare
 --                                             dictionary order is a total order of the lists of one length
+--     dictionary-at                           the first difference decides
 --     positioned                              a number that follows dictionary order is the position in it
 --     local-total, natural-total              both orders of trees are total
 --     local-pattern, pattern-local            the local order is dictionary order of patterns of one size
@@ -13,7 +14,8 @@ use mathlib.Core.List.{List, [], _∷_, _++_}
 use Prim.Native.Nat.{ℕ, zero, suc, _+_, _≤_, _<_}
 use native.Mathlib.Nat.{lt-irrefl, lt-trans, lt-suc-self, lt-of-lt-of-le, lt-of-le-of-lt, le-of-eq}
 use native.Mathlib.Omega.{arith}
-use lib.ListN.{length}
+use lib.ListN.{length, getD, take, drop}
+use lib.Seq.{split-at}
 use Rattle.shape.specs.Tree.{Tree, empty, node, size, pattern, permutation, permutationFrom}
 use Rattle.shape.specs.Order.{Local, Natural, Dictionary, differ, agree, Comparison, before, same, after, TotalOrder}
 use Rattle.shape.proofs.Patterns.{length-pattern, pattern-node}
@@ -84,6 +86,12 @@ unfollowed (x ∷ p) [] w h d = absurd (omega arith)
 unfollowed (x ∷ p) (y ∷ q) w h (differ k) = differ k
 unfollowed (x ∷ p) (y ∷ q) w h (agree d) = agree (unfollowed p q w (omega arith) d)
 
+-- the lists are the same up to place i, and there p has the smaller number
+pub dictionary-at : (p q : List ℕ) (i : ℕ) → take i p ≡ take i q → i < length p → i < length q → getD p i 0 < getD q i 0 → Dictionary p q
+dictionary-at p q i e on on′ h =
+    let split = ap (λ (w : List ℕ). w ++ getD q i 0 ∷ drop (suc i) q) e ∙ sym (split-at q i 0 on′) in
+    subst₂ Dictionary (sym (split-at p i 0 on)) split (common (take i p) (differ h))
+
 -- a number that follows dictionary order is the position in it
 pub positioned : (number : List ℕ → ℕ) (p q : List ℕ) → (Dictionary p q → number p < number q) → (Dictionary q p → number q < number p)
     → length p ≡ length q → Dictionary p q ↔ (number p < number q)
@@ -118,7 +126,9 @@ local-compare empty empty = same refl
 local-compare empty (node l r) = before Local.empty-first
 local-compare (node l r) empty = after Local.empty-first
 local-compare (node l r) (node l′ r′) =
-    by-parts node l l′ r r′ Local.left-first Local.left-first (λ e. Local.right-first) (λ e. Local.right-first) (local-compare l l′) (local-compare r r′)
+    by-parts node l l′ r r′ Local.left-first Local.left-first (λ e. Local.right-first) (λ e. Local.right-first)
+    (local-compare l l′)
+    (local-compare r r′)
 
 pub local-total : TotalOrder Local
 local-total = record { irreflexive = λ t. local-irreflexive; transitive = λ s t u. local-transitive; compare = local-compare }

@@ -2,11 +2,14 @@
 --     Word e a w           w can follow a prefix with e more ones than zeros, and has a ones: the working form of "feasible"
 --     word-ones, word-zeros, word-length      what a word holds
 --     feasible-word, word-feasible            a feasible pattern of size n is a word with no excess before it and n ones
+--     feasible-length      so it has 2n places
 --     pattern-node         a node's pattern, and what follows it, part after part
 --     pattern-formed       a tree's pattern is feasible
 --     pattern-read         the tree is read back from its pattern
 --     pattern-of           a feasible pattern is the pattern of the tree read from it
 --     length-pattern       2n places
+--     head-part            a node's pattern is its head and then the pattern of its right part
+--     head-length          the head has two places for each node of the left part, and two for the root
 --     patterns-faithful    all of it together: patterns are one to one with trees
 -- Assumes nothing.
 use mathlib.Core.Path.{_≡_, refl, sym, ap, _∙_, subst, subst₂}
@@ -14,8 +17,8 @@ use mathlib.Core.List.{List, [], _∷_, _++_, append-assoc, append-nil}
 use Prim.Native.Nat.{ℕ, zero, suc, _+_, _*_, _≤_, _<_, zero-le}
 use native.Mathlib.Nat.{add-zero, zero-add, le-refl}
 use native.Mathlib.Omega.{arith}
-use lib.ListN.{length, getD, take}
-use Rattle.shape.specs.Tree.{Tree, empty, node, size, pattern}
+use lib.ListN.{length, getD, take, length-append}
+use Rattle.shape.specs.Tree.{Tree, empty, node, size, pattern, head}
 use Rattle.shape.specs.Form.{count, Feasible, forest, joined, patternTree, patterns, Faithful}
 
 pub data Word : ℕ → ℕ → List ℕ → Type 0 where
@@ -86,6 +89,9 @@ follows (suc (suc x) ∷ p) e a h o z f = absurd (let z = h 0 (omega arith) in o
 pub feasible-word : {n : ℕ} {p : List ℕ} → Feasible n p → Word 0 n p
 feasible-word {n} {p} g = follows p 0 n (g .places) (g .ones) (omega (arith, g .zeros)) (λ i. omega (arith, g .prefix i))
 
+pub feasible-length : (n : ℕ) (p : List ℕ) → Feasible n p → length p ≡ 2 * n
+feasible-length n p g = omega (arith, word-length (feasible-word g))
+
 -- ---- trees
 
 -- a node's pattern, and what follows it, part after part
@@ -108,6 +114,14 @@ pattern-formed t = word-feasible (pattern-word t)
 
 pub length-pattern : (t : Tree) → length (pattern t) ≡ 2 * size t
 length-pattern t = omega (arith, word-length (pattern-word t))
+
+pub head-part : (l r : Tree) → pattern (node l r) ≡ head (node l r) ++ pattern r
+unfolding pattern head
+head-part l r = ap {B = List ℕ} (λ v. 1 ∷ v) (sym (append-assoc (pattern l) (0 ∷ []) (pattern r)))
+
+pub head-length : (l r : Tree) → length (head (node l r)) ≡ 2 * size l + 2
+unfolding head
+head-length l r = omega (arith, length-append (pattern l) (0 ∷ []), length-pattern l)
 
 -- a tree that another one follows, and the last tree, whose own 0 is dropped
 forest-tree : (t : Tree) (w : List ℕ) → forest (pattern t ++ 0 ∷ w) ≡ t ∷ forest w

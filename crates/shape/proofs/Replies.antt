@@ -2,16 +2,22 @@
 --     refusal-known       no two refusals have one number
 --     refusal-least, refusal-most      the numbers are 1 to 11
 --     outcome-known, numbered-known    no two answers have one reply
+--     outcome-exact, numbered-exact    so what is said of the reply is said of the answer
 --     outcome-silent, refused-silent   the value is 0 where there is nothing to say
 --     done-accepted, value-accepted    the refusal's number is 0 where nothing is refused
+--     reply-value, reply-refused       after a check a call says its value, or refuses
+--     reply-outcome                    and where it has no value to say, what the check says
+--     done-leaves, refused-leaves      it leaves what it wrote, or what it was lent
 -- Assumes nothing.
 use mathlib.Core.Path.{_≡_, refl, sym, ap, _∙_}
+use mathlib.Core.Logic.{_↔_}
 use mathlib.Core.List.{List, [], _∷_}
 use Prim.Native.Nat.{ℕ, _-_, _≤_}
 use native.Mathlib.Omega.{arith}
 use lib.Dec.{T, leb, leb→le}
 use lib.ListN.{getD}
 use Rattle.shape.specs.Reply.{refusalNumber, Reply, outcomeReply, numberedReply}
+use Rattle.shape.specs.Check.{reply, unlessRefused}
 use Rattle.shape.specs.declared.Refusal.{Refusal}
 use Rattle.shape.specs.declared.Refusal.the-variants.{Size, Length, Entry, Shape, Number, Last, First, Range, State, Record, Input}
 use Rattle.shape.specs.declared.Outcome.{Outcome}
@@ -65,6 +71,12 @@ numbered-known (Value j) (NotNumbered f) e = absurd (omega (arith, same-refusal 
 numbered-known (NotNumbered f) (Value k) e = absurd (omega (arith, same-refusal e, refusal-least f))
 numbered-known (NotNumbered f) (NotNumbered g) e = ap NotNumbered (refusal-known f g (same-refusal e))
 
+pub outcome-exact : (r s : Outcome) → (outcomeReply r ≡ outcomeReply s) ↔ (r ≡ s)
+outcome-exact r s = (outcome-known r s, ap outcomeReply)
+
+pub numbered-exact : (r s : Numbered) → (numberedReply r ≡ numberedReply s) ↔ (r ≡ s)
+numbered-exact r s = (numbered-known r s, ap numberedReply)
+
 -- where there is nothing to say, 0 is said
 pub outcome-silent : (r : Outcome) → outcomeReply r .value ≡ 0
 outcome-silent Done = refl
@@ -79,3 +91,22 @@ done-accepted = refl
 
 pub value-accepted : (k : ℕ) → numberedReply (Value k) .refusal ≡ 0
 value-accepted k = refl
+
+-- ---- after a check
+
+pub reply-value : (k : ℕ) → reply Done k ≡ numberedReply (Value k)
+reply-value k = refl
+
+pub reply-refused : (f : Refusal) (k : ℕ) → reply (Refused f) k ≡ numberedReply (NotNumbered f)
+reply-refused f k = refl
+
+pub reply-outcome : (r : Outcome) → reply r 0 ≡ outcomeReply r
+reply-outcome Done = refl
+reply-outcome (Refused f) = refl
+
+module _ {A : Type 0} (new old : A) where
+  pub done-leaves : unlessRefused Done new old ≡ new
+  done-leaves = refl
+
+  pub refused-leaves : (f : Refusal) → unlessRefused (Refused f) new old ≡ old
+  refused-leaves f = refl

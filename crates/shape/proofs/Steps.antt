@@ -2,6 +2,7 @@
 --     next-formed, number-next           the step on is well formed and has the number one higher
 --     previous-formed, number-previous   the step back has the number one lower
 --     previous-next, next-previous       each undoes the other
+--     next-numbered, previous-numbered   a step from the shape with number k leads to the one with number k + 1, or k - 1
 -- Assumes nothing.
 use mathlib.Core.Path.{_≡_, ap, _∙_}
 use mathlib.Core.List.{List}
@@ -33,3 +34,12 @@ module _ (N : Numbering) (laws : Lawful N) (p : List ℕ) (g : WellFormed N p) w
   pub next-previous : 0 < N .number p → next N (previous N p) ≡ p
   unfolding next
   next-previous h = ap (N .shape) (omega (arith, number-previous)) ∙ laws .shape-number p g
+
+module _ (N : Numbering) (laws : Lawful N) (k : ℕ) (h : k < total N) where
+  pub next-numbered : next N (N .shape k) ≡ N .shape (k + 1)
+  unfolding next
+  next-numbered = ap (λ (i : ℕ). N .shape (i + 1)) (laws .number-shape k h)
+
+  pub previous-numbered : previous N (N .shape k) ≡ N .shape (k - 1)
+  unfolding previous
+  previous-numbered = ap (λ (i : ℕ). N .shape (i - 1)) (laws .number-shape k h)

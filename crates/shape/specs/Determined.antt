@@ -1,39 +1,38 @@
--- When a contract determines what a call does. P is a function's generated contract: lifetimes, arguments, answer, and what the
--- parameters hold at exit.
---     Fixes, FixesPart       two answers that meet it are equal, and so is what a lent slice holds in the end
---     Says, SaysPart         whatever meets it is what the named definition gives
---     Allows, AllowsPart     what the named definitions give meets it: the contract is not empty
---     AsksNothing            it asks nothing of the caller
---     says-fixes, says-part-fixes      what says fixes
+-- When a contract determines what a call does. Q is what a function's generated contract asks, of the lifetimes and the arguments; P is what
+-- it says, of these, of the answer, and of what the parameters hold at exit. What a caller sees is a part of the last two.
+--     AsksNothing Q            it asks nothing
+--     Exact P see f            it says that what is seen is what the definition f gives: that much, and nothing that f does not meet
+--     Fixes P see              two calls that meet it are seen alike
+--     Determined X Q P see f   all three, where a caller sees an X; `determined` makes it of the first two
+--     exact-both               of two things that are seen
 -- Assumes nothing.
-use mathlib.Core.Path.{_≡_, sym, _∙_}
-
-module _ {K : Type 0} {A R S : K → Type 0} where
-  abbrev pub Fixes : ((κ : K) → A κ → R κ → S κ → Type 0) → Type 0
-  Fixes P = (κ : K) (a : A κ) (r r′ : R κ) (s s′ : S κ) → P κ a r s → P κ a r′ s′ → r ≡ r′
-
-  abbrev pub Says : ((κ : K) → A κ → R κ → S κ → Type 0) → ((κ : K) → A κ → R κ) → Type 0
-  Says P f = (κ : K) (a : A κ) (r : R κ) (s : S κ) → P κ a r s → r ≡ f κ a
-
-  abbrev pub Allows : ((κ : K) → A κ → R κ → S κ → Type 0) → ((κ : K) → A κ → R κ) → Type 0
-  Allows P f = (κ : K) (a : A κ) (s : S κ) → P κ a (f κ a) s
-
-  pub says-fixes : {P : (κ : K) → A κ → R κ → S κ → Type 0} {f : (κ : K) → A κ → R κ} → Says P f → Fixes P
-  says-fixes h κ a r r′ s s′ p p′ = h κ a r s p ∙ sym (h κ a r′ s′ p′)
-
-  module _ {X : Type 0} where
-    abbrev pub FixesPart : ((κ : K) → A κ → R κ → S κ → Type 0) → ((κ : K) → S κ → X) → Type 0
-    FixesPart P part = (κ : K) (a : A κ) (r r′ : R κ) (s s′ : S κ) → P κ a r s → P κ a r′ s′ → part κ s ≡ part κ s′
-
-    abbrev pub SaysPart : ((κ : K) → A κ → R κ → S κ → Type 0) → ((κ : K) → S κ → X) → ((κ : K) → A κ → X) → Type 0
-    SaysPart P part g = (κ : K) (a : A κ) (r : R κ) (s : S κ) → P κ a r s → part κ s ≡ g κ a
-
-    pub says-part-fixes : {P : (κ : K) → A κ → R κ → S κ → Type 0} (part : (κ : K) → S κ → X) (g : (κ : K) → A κ → X)
-        → SaysPart P part g → FixesPart P part
-    says-part-fixes part g h κ a r r′ s s′ p p′ = h κ a r s p ∙ sym (h κ a r′ s′ p′)
-
-    abbrev pub AllowsPart : ((κ : K) → A κ → R κ → S κ → Type 0) → ((κ : K) → A κ → R κ) → ((κ : K) → S κ → X) → ((κ : K) → A κ → X) → Type 0
-    AllowsPart P f part g = (κ : K) (a : A κ) (s : S κ) → part κ s ≡ g κ a → P κ a (f κ a) s
+use mathlib.Core.Path.{_≡_, sym, ap, _∙_}
+use mathlib.Core.Logic.{_↔_}
 
 abbrev pub AsksNothing : {K : Type 0} {A : K → Type 0} → ((κ : K) → A κ → Type 0) → Type 0
-AsksNothing {K} {A} P = (κ : K) (a : A κ) → P κ a
+AsksNothing {K} {A} Q = (κ : K) (a : A κ) → Q κ a
+
+module _ {K : Type 0} {A R S : K → Type 0} {X : Type 0} where
+  abbrev pub Exact : ((κ : K) → A κ → R κ → S κ → Type 0) → ((κ : K) → R κ → S κ → X) → ((κ : K) → A κ → X) → Type 0
+  Exact P see f = (κ : K) (a : A κ) (r : R κ) (s : S κ) → P κ a r s ↔ (see κ r s ≡ f κ a)
+
+  abbrev pub Fixes : ((κ : K) → A κ → R κ → S κ → Type 0) → ((κ : K) → R κ → S κ → X) → Type 0
+  Fixes P see = (κ : K) (a : A κ) (r r′ : R κ) (s s′ : S κ) → P κ a r s → P κ a r′ s′ → see κ r s ≡ see κ r′ s′
+
+module _ {K : Type 0} {A R S : K → Type 0} (X : Type 0) where
+  pub record Determined (Q : (κ : K) → A κ → Type 0) (P : (κ : K) → A κ → R κ → S κ → Type 0)
+      (see : (κ : K) → R κ → S κ → X) (f : (κ : K) → A κ → X) : Type 0 where
+    pub asks-nothing : AsksNothing Q
+    pub exact : Exact P see f
+    pub fixes : Fixes P see
+
+module _ {K : Type 0} {A R S : K → Type 0} {X : Type 0} {Q : (κ : K) → A κ → Type 0} {P : (κ : K) → A κ → R κ → S κ → Type 0} where
+  pub determined : {see : (κ : K) → R κ → S κ → X} {f : (κ : K) → A κ → X} → AsksNothing Q → Exact P see f → Determined X Q P see f
+  determined n e =
+      record { asks-nothing = n; exact = e; fixes = λ κ a r r′ s s′ p p′. e κ a r s .0 p ∙ sym (e κ a r′ s′ .0 p′) }
+
+pub exact-both : {X Y P Q : Type 0} {x x′ : X} {y y′ : Y} → P ↔ (x ≡ x′) → Q ↔ (y ≡ y′) → (P × Q) ↔ _≡_ {A = X × Y} (x, y) (x′, y′)
+exact-both {X} {Y} g h = (
+  λ (p, q) i. (g .0 p i, h .0 q i),
+  λ e. (g .1 (ap (λ (z : X × Y). z .0) e), h .1 (ap (λ (z : X × Y). z .1) e)),
+)

@@ -5,5 +5,6 @@ pub mod Order
 pub mod Number
 pub mod Numbering
 pub mod Reply
+pub mod Check
 pub mod Determined
 pub mod Lines

@@ -1,6 +1,7 @@
 -- A shape: a binary tree, left and right kept apart, and the two ways to write it.
 --     Tree, size
 --     pattern t          as zeros and ones, two places for each node
+--     head t             the part of the pattern up to the end of the root's left part
 --     permutation t      as the numbers 1..n, a label for each node; permutationFrom base t, as the numbers after base
 -- Assumes nothing.
 use mathlib.Core.List.{List, [], _∷_, _++_}
@@ -20,6 +21,11 @@ size (node l r) = suc (size l + size r)
 unfoldable pub pattern : Tree → List ℕ
 pattern empty = []
 pattern (node l r) = 1 ∷ (pattern l ++ 0 ∷ pattern r)
+
+-- 01, Depth, head, later: the root's 1, its left part, and the 0 that closes it.
+unfoldable pub head : Tree → List ℕ
+head empty = []
+head (node l r) = 1 ∷ (pattern l ++ 0 ∷ [])
 
 -- 01, Two forms; 004, section 1: the nodes are labelled left, root, right and listed root, left, right. The labels here begin after
 -- `base`; those of the left part come first, then the root's, `suc (base + size l)`, and after that those of the right part.
