@@ -11,6 +11,7 @@ pub mod NaturalNumbers
 pub mod Listing
 pub mod Steps
 pub mod Changes
+pub mod Neighbours
 pub mod Prefixes
 pub mod Excess
 pub mod Meanings
