@@ -1,0 +1,6 @@
+pub mod Places
+pub mod Numbers
+pub mod Walks
+pub mod Blocks
+pub mod Moves
+pub mod Chains

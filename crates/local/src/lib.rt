@@ -1,0 +1,118 @@
+// The work on patterns in the local order. The crate stands below the calls: its functions take feasible patterns and do no checks, so
+// that a caller who steps from pattern to pattern pays for a check once.
+mod steps;
+
+pub use steps::next;
+pub use steps::previous;
+ghost use mathlib.Core.Path.{_≡_};
+ghost use Prim.Native.Nat.{_*_, _≤_, _<_};
+ghost use lib.Dec.{ltb};
+ghost use lib.ListN.{length};
+ghost use Rattle.catalan.specs.Count.{C, largestSize};
+ghost use Rattle.shape.specs.Tree.{head};
+ghost use Rattle.shape.specs.Form.{Feasible, patternTree};
+ghost use Rattle.shape.specs.Number.{localNumber, localPattern, depth as depthOf};
+
+// From the last place to the first, since a 1 asks for the ways to finish what stands after it with one 0 fewer: that row grows by one 0
+// at a time, and is held for one 0 fewer than have been passed. The last place is a 0, and asks for nothing.
+pub fn number(size: usize, places: &[u8]) -> u64
+    requires { ⌜ (1 ≤ size) × (size ≤ largestSize) × Feasible size (now places) ⌝ }
+    ensures { λ r. ⌜ r ≡ localNumber (now (places .entry)) ⌝ }
+{
+    let mut row = [0u64; 36];
+    row[0] = 1;
+    let mut number = 0;
+    let mut ones = 0;
+    let mut zeros = 1;
+    let mut i = 2 * size - 1;
+    while i > 0 {
+        i -= 1;
+        if places[i] == 0 {
+            catalan::grow(zeros - 1, &mut row);
+            zeros += 1;
+        } else {
+            ones += 1;
+            number += row[ones];
+        }
+    }
+    number
+}
+
+// From the first place to the last: a 0 stands where the number is among the ways to finish after it. The row of those ways loses a 0 with
+// each 0 that is placed. Once no 1 is left, the rest is zeros.
+pub fn shape(size: usize, number: u64, places: &mut [u8])
+    requires { ⌜ (1 ≤ size) × (size ≤ largestSize) × (number < C size) × (length (now places) ≡ 2 * size) ⌝ }
+    ensures { λ _. ⌜ now (places .exit) ≡ localPattern size number ⌝ }
+{
+    let mut row = [0u64; 36];
+    catalan::fill(size - 1, &mut row);
+    let mut left = number;
+    let mut ones = size;
+    let mut after = size - 1;
+    let mut i = 0;
+    while ones > 0 {
+        let ways = row[ones];
+        if left < ways {
+            places[i] = 0;
+            catalan::shrink(after, &mut row);
+            after -= 1;
+            i += 1;
+        } else {
+            places[i] = 1;
+            left -= ways;
+            ones -= 1;
+            i += 1;
+        }
+    }
+    steps::put(places, 0, i, 2 * size);
+}
+
+// A place takes the excess of ones over zeros up by one or down by one.
+pub fn depth(size: usize, places: &[u8]) -> u64
+    requires { ⌜ Feasible size (now places) ⌝ }
+    ensures { λ r. ⌜ r ≡ depthOf (now (places .entry)) ⌝ }
+{
+    let mut largest = 0;
+    let mut excess = 0;
+    let mut i = 0;
+    while i < 2 * size {
+        excess = excess + 2 * (places[i] as u64) - 1;
+        i += 1;
+        if excess > largest {
+            largest = excess;
+        }
+    }
+    largest
+}
+
+// How long the head is: the 0 that closes the root's left part is the first place at which no 1 is left open.
+pub fn head_length(size: usize, places: &[u8]) -> usize
+    requires { ⌜ (1 ≤ size) × Feasible size (now places) ⌝ }
+    ensures { λ r. ⌜ r ≡ length (head (patternTree (now (places .entry)))) ⌝ }
+{
+    let mut open = 1;
+    let mut i = 1;
+    while open > 0 {
+        open = open + 2 * (places[i] as usize) - 1;
+        i += 1;
+    }
+    i
+}
+
+// Dictionary order is the local order, so no number is worked out.
+pub fn before(size: usize, first: &[u8], second: &[u8]) -> bool
+    requires { ⌜ Feasible size (now first) × Feasible size (now second) ⌝ }
+    ensures { λ r. ⌜ r ≡ ltb (localNumber (now (first .entry))) (localNumber (now (second .entry))) ⌝ }
+{
+    let mut i = 0;
+    while i < 2 * size {
+        if first[i] < second[i] {
+            return true;
+        }
+        if first[i] > second[i] {
+            return false;
+        }
+        i += 1;
+    }
+    false
+}
