@@ -1,0 +1,4 @@
+pub mod Searches
+pub mod Answers
+pub mod Returns
+pub mod Determined

@@ -1,0 +1,24 @@
+-- `pattern::number` meets its contract: the check's refusal, or what `local::number` says of a pattern.
+-- Assumes nothing.
+use Rattle.pattern.specs.Calls.{numberReply}
+use Rattle.pattern.proofs.Answers.{answers}
+use Rattle.pattern.proofs.number.Statement.{statement}
+use Rattle.pattern.proofs.number.Tie as tie
+
+pub number-spec : {M : Type 1} → statement M
+unfolding numberReply
+number-spec =
+    tie.close
+    (tie.spec
+    -- check-requires
+    (λ c κs. search answers)
+    -- enum-known-refusal
+    (λ c. search answers)
+    -- enum-told
+    (λ c. search answers)
+    -- number-requires
+    (λ c κs. search answers)
+    -- returns
+    (λ c. search answers)
+    -- returns-2
+    (λ c. search answers))

@@ -1,0 +1,34 @@
+-- `pattern::shape` meets its contract: a refusal of the size or of the length, then that of the number, or what `local::shape` writes.
+-- Assumes nothing.
+use Rattle.pattern.specs.Calls.{shapeReply, shapeEnd}
+use Rattle.pattern.proofs.Answers.{answers}
+use Rattle.pattern.proofs.shape.Statement.{statement}
+use Rattle.pattern.proofs.shape.Tie as tie
+
+pub shape-spec : {M : Type 1} → statement M
+unfolding shapeReply shapeEnd
+shape-spec =
+    tie.close
+    (tie.spec
+    -- room-requires
+    (λ c κs. search answers)
+    -- enum-known-refusal
+    (λ c. search answers)
+    -- enum-told
+    (λ c. search answers)
+    -- catalan-requires
+    (λ c κs. search answers)
+    -- same-length
+    (λ c. search answers)
+    -- returns
+    (λ c. search answers)
+    -- shape-requires
+    (λ c κs. search answers)
+    -- same-length-2
+    (λ c. search answers)
+    -- returns-2
+    (λ c. search answers)
+    -- same-length-3
+    (λ c. search answers)
+    -- returns-3
+    (λ c. search answers))

@@ -1,0 +1,34 @@
+-- `pattern::successor` meets its contract: the check's refusal, or the last's, where `local::next` finds no change, or that change.
+-- Assumes nothing.
+use Rattle.shape.specs.Check.{successorCheck}
+use Rattle.local.specs.Places.{nextChange, nextPattern}
+use Rattle.pattern.specs.Calls.{successorReply, successorEnd}
+use Rattle.pattern.proofs.Answers.{answers}
+use Rattle.pattern.proofs.successor.Statement.{statement}
+use Rattle.pattern.proofs.successor.Tie as tie
+
+pub successor-spec : {M : Type 1} → statement M
+unfolding successorReply successorEnd successorCheck nextChange nextPattern
+successor-spec =
+    tie.close
+    (tie.spec
+    -- check-requires
+    (λ c κs. search answers)
+    -- enum-known-refusal
+    (λ c. search answers)
+    -- enum-told
+    (λ c. search answers)
+    -- next-requires
+    (λ c κs. search answers)
+    -- same-length
+    (λ c. search answers)
+    -- returns
+    (λ c. search answers)
+    -- same-length-2
+    (λ c. search answers)
+    -- returns-2
+    (λ c. search answers)
+    -- same-length-3
+    (λ c. search answers)
+    -- returns-3
+    (λ c. search answers))
