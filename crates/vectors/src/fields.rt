@@ -1,0 +1,99 @@
+// A line's fields, with single spaces between them, and what they stand for: words, numbers, and places.
+ghost use Prim.Native.Nat.{_≤_};
+ghost use lib.ListN.{length};
+ghost use Rattle.io.specs.Counts.{Counts};
+
+// The k-th field, from 0; empty where the line has fewer.
+pub fn field(line: &[u8], k: usize) -> &[u8] {
+    let start = start_of(line, k);
+    let end = end_of(line, start, b' ');
+    &line[start..end]
+}
+
+fn start_of(line: &[u8], k: usize) -> usize
+    ensures { λ r. ⌜ r ≤ length (now (line .entry)) ⌝ }
+{
+    let mut start = 0;
+    let mut left = k;
+    while left > 0 {
+        start = end_of(line, start, b' ');
+        if start == line.len() {
+            return start;
+        }
+        start += 1;
+        left -= 1;
+    }
+    start
+}
+
+// Which of the names a line begins with, from 0; for a name that is not among them, the number of names or more.
+pub fn kind(line: &[u8], names: &[u8]) -> usize {
+    let name = field(line, 0);
+    let mut k = 0;
+    while k < names.len() {
+        if check::same(name, field(names, k)) {
+            return k;
+        }
+        k += 1;
+    }
+    k
+}
+
+// Where the letter stands next, from `start` on; where it does not, the text's end.
+pub fn end_of(text: &[u8], start: usize, letter: u8) -> usize
+    requires { ⌜ start ≤ length (now text) ⌝ }
+    ensures { λ r. ⌜ (start ≤ r) × (r ≤ length (now (text .entry))) ⌝ }
+{
+    let mut i = start;
+    while i < text.len() {
+        if text[i] == letter {
+            return i;
+        }
+        i += 1;
+    }
+    i
+}
+
+// The k-th field as a decimal number; the largest there is where it is larger than that.
+pub fn number(line: &[u8], k: usize) -> u64 {
+    let text = field(line, k);
+    let mut value = 0;
+    let mut i = 0;
+    while i < text.len() {
+        let digit = place(text[i]) as u64;
+        if value > (18446744073709551615 - digit) / 10 {
+            return 18446744073709551615;
+        }
+        value = 10 * value + digit;
+        i += 1;
+    }
+    value
+}
+
+// The places that a text shows, one by a digit, 255 by x, and none at all by -. Answers how many there was room for.
+pub fn read(text: &[u8], places: &mut [u8]) -> usize
+    ensures { λ r. ⌜ Counts r (now (places .exit)) ⌝ }
+{
+    if check::same(text, b"-") {
+        return 0;
+    }
+    let mut i = 0;
+    while i < text.len() {
+        if i >= places.len() {
+            return i;
+        }
+        places[i] = place(text[i]);
+        i += 1;
+    }
+    i
+}
+
+fn place(letter: u8) -> u8 {
+    if letter < b'0' {
+        return 255;
+    }
+    if letter > b'9' {
+        return 255;
+    }
+    letter - b'0'
+}
