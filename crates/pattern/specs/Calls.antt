@@ -53,6 +53,7 @@ depthReply n p = reply (checked patterns n p) (depth p)
 unfoldable pub headPart : ℕ → List ℕ → List ℕ
 headPart n p = unlessRefused (checked patterns n p) (head (patternTree p)) []
 
+-- Either one refused is enough. Which refusal it was is not told, so it does not matter which of the two is tried first.
 unfoldable pub laterCheck : ℕ → List ℕ → List ℕ → Outcome
 laterCheck n p q = andThen (checked patterns n p) (checked patterns n q)
 

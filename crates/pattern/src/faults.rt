@@ -1,16 +1,33 @@
-// Where the places of a slice stop being those of a pattern. Each place is read once: behind the first that no pattern has there, only a
-// place above 1 is still looked for, since that is the lower refusal.
+// What is wrong with a size and a slice, in the order of the refusals' numbers. Each place is read once: behind the first that no pattern
+// has there, only a place above 1 is still looked for, since that is the lower refusal.
 ghost use mathlib.Core.Path.{_≡_};
 ghost use Prim.Native.Nat.{_-_, _*_, _≤_};
 ghost use lib.Dec.{leb};
 ghost use lib.ListN.{length, getD};
 ghost use Rattle.catalan.specs.Count.{largestSize};
 ghost use Rattle.shape.specs.Form.{patterns};
-ghost use Rattle.shape.specs.Check.{contents as contentsOf};
+ghost use Rattle.shape.specs.Check.{roomFor, contents as contentsOf};
 ghost use Rattle.pattern.specs.Faults.{firstFault, patternFits};
 use shape::Outcome;
 use shape::Refusal;
 
+// Whether the size is one and the slice as long as it asks.
+pub(crate) fn room(size: usize, places: &[u8]) -> Outcome
+    ensures { λ r. ⌜ r ≡ roomFor patterns size (now (places .entry)) ⌝ }
+{
+    if size == 0 {
+        return Outcome::Refused(Refusal::Size);
+    }
+    if size > 35 {
+        return Outcome::Refused(Refusal::Size);
+    }
+    if places.len() != 2 * size {
+        return Outcome::Refused(Refusal::Length);
+    }
+    Outcome::Done
+}
+
+// Whether the places are those of a pattern.
 pub(crate) fn contents(size: usize, places: &[u8]) -> Outcome
     requires { ⌜ (size ≤ largestSize) × (length (now places) ≡ 2 * size) ⌝ }
     ensures { λ r. ⌜ r ≡ contentsOf patterns size (now (places .entry)) ⌝ }

@@ -4,9 +4,7 @@ mod faults;
 
 ghost use denote.Ref.{ptr};
 ghost use mathlib.Core.Path.{_≡_};
-ghost use Rattle.shape.specs.Form.{patterns};
 ghost use Rattle.shape.specs.Reply.{outcomeReply, numberedReply};
-ghost use Rattle.shape.specs.Check.{roomFor};
 ghost use Rattle.pattern.specs.Calls.{checkReply, numberReply, shapeReply, shapeEnd, successorReply, successorEnd};
 ghost use Rattle.pattern.specs.Calls.{predecessorReply, predecessorEnd, depthReply, headPart, laterOf, laterPart};
 use shape::Numbered;
@@ -17,7 +15,7 @@ use shape::Refusal;
 pub fn check(size: usize, places: &[u8]) -> Outcome
     ensures { λ r. ⌜ outcomeReply r ≡ checkReply size (now (places .entry)) ⌝ }
 {
-    match room(size, places) {
+    match faults::room(size, places) {
         Outcome::Refused(refusal) => Outcome::Refused(refusal),
         Outcome::Done => faults::contents(size, places),
     }
@@ -38,7 +36,7 @@ pub fn shape(size: usize, number: u64, places: &mut [u8]) -> Outcome
     ensures { λ r. ⌜ outcomeReply r ≡ shapeReply size number (now (places .entry)) ⌝ }
     ensures { λ _. ⌜ now (places .exit) ≡ shapeEnd size number (now (places .entry)) ⌝ }
 {
-    match room(size, places) {
+    match faults::room(size, places) {
         Outcome::Refused(refusal) => Outcome::Refused(refusal),
         Outcome::Done => {
             if number >= catalan::catalan(size) {
@@ -126,20 +124,4 @@ pub fn later<'a>(size: usize, first: &'a [u8], second: &'a [u8]) -> &'a [u8]
             }
         },
     }
-}
-
-// Whether the size is one and the slice as long as it asks.
-fn room(size: usize, places: &[u8]) -> Outcome
-    ensures { λ r. ⌜ r ≡ roomFor patterns size (now (places .entry)) ⌝ }
-{
-    if size == 0 {
-        return Outcome::Refused(Refusal::Size);
-    }
-    if size > 35 {
-        return Outcome::Refused(Refusal::Size);
-    }
-    if places.len() != 2 * size {
-        return Outcome::Refused(Refusal::Length);
-    }
-    Outcome::Done
 }

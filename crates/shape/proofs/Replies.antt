@@ -5,9 +5,6 @@
 --     outcome-exact, numbered-exact    so what is said of the reply is said of the answer
 --     outcome-silent, refused-silent   the value is 0 where there is nothing to say
 --     done-accepted, value-accepted    the refusal's number is 0 where nothing is refused
---     reply-value, reply-refused       after a check a call says its value, or refuses
---     reply-outcome                    and where it has no value to say, what the check says
---     done-leaves, refused-leaves      it leaves what it wrote, or what it was lent
 -- Assumes nothing.
 use mathlib.Core.Path.{_≡_, refl, sym, ap, _∙_}
 use mathlib.Core.Logic.{_↔_}
@@ -17,7 +14,6 @@ use native.Mathlib.Omega.{arith}
 use lib.Dec.{T, leb, leb→le}
 use lib.ListN.{getD}
 use Rattle.shape.specs.Reply.{refusalNumber, Reply, outcomeReply, numberedReply}
-use Rattle.shape.specs.Check.{reply, unlessRefused}
 use Rattle.shape.specs.declared.Refusal.{Refusal}
 use Rattle.shape.specs.declared.Refusal.the-variants.{Size, Length, Entry, Shape, Number, Last, First, Range, State, Record, Input}
 use Rattle.shape.specs.declared.Outcome.{Outcome}
@@ -91,22 +87,3 @@ done-accepted = refl
 
 pub value-accepted : (k : ℕ) → numberedReply (Value k) .refusal ≡ 0
 value-accepted k = refl
-
--- ---- after a check
-
-pub reply-value : (k : ℕ) → reply Done k ≡ numberedReply (Value k)
-reply-value k = refl
-
-pub reply-refused : (f : Refusal) (k : ℕ) → reply (Refused f) k ≡ numberedReply (NotNumbered f)
-reply-refused f k = refl
-
-pub reply-outcome : (r : Outcome) → reply r 0 ≡ outcomeReply r
-reply-outcome Done = refl
-reply-outcome (Refused f) = refl
-
-module _ {A : Type 0} (new old : A) where
-  pub done-leaves : unlessRefused Done new old ≡ new
-  done-leaves = refl
-
-  pub refused-leaves : (f : Refusal) → unlessRefused (Refused f) new old ≡ old
-  refused-leaves f = refl

@@ -1,8 +1,8 @@
--- `pattern::room` meets its contract: each refusal is the one that its test asks for.
+-- `pattern::faults::room` meets its contract: each refusal is the one that its test asks for.
 -- Assumes nothing.
 use Rattle.pattern.proofs.Answers.{answers}
-use Rattle.pattern.proofs.room.Statement.{statement}
-use Rattle.pattern.proofs.room.Tie as tie
+use Rattle.pattern.proofs.faults.room.Statement.{statement}
+use Rattle.pattern.proofs.faults.room.Tie as tie
 
 pub room-spec : {M : Type 1} → statement M
 room-spec =
