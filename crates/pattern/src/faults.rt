@@ -1,31 +1,15 @@
-// What is wrong with a size and a slice, in the order of the refusals' numbers. Each place is read once: behind the first that no pattern
-// has there, only a place above 1 is still looked for, since that is the lower refusal.
+// What is wrong with the contents of a slice, in the order of the refusals' numbers. Each place is read once: behind the first that no
+// pattern has there, only a place above 1 is still looked for, since that is the lower refusal.
 ghost use mathlib.Core.Path.{_≡_};
 ghost use Prim.Native.Nat.{_-_, _*_, _≤_};
 ghost use lib.Dec.{leb};
 ghost use lib.ListN.{length, getD};
 ghost use Rattle.catalan.specs.Count.{largestSize};
 ghost use Rattle.shape.specs.Form.{patterns};
-ghost use Rattle.shape.specs.Check.{roomFor, contents as contentsOf};
-ghost use Rattle.pattern.specs.Faults.{firstFault, patternFits};
+ghost use Rattle.shape.specs.Check.{contents as contentsOf};
+ghost use Rattle.shape.specs.Faults.{firstFault, fits};
 use shape::Outcome;
 use shape::Refusal;
-
-// Whether the size is one and the slice as long as it asks.
-pub(crate) fn room(size: usize, places: &[u8]) -> Outcome
-    ensures { λ r. ⌜ r ≡ roomFor patterns size (now (places .entry)) ⌝ }
-{
-    if size == 0 {
-        return Outcome::Refused(Refusal::Size);
-    }
-    if size > 35 {
-        return Outcome::Refused(Refusal::Size);
-    }
-    if places.len() != 2 * size {
-        return Outcome::Refused(Refusal::Length);
-    }
-    Outcome::Done
-}
 
 // Whether the places are those of a pattern.
 pub(crate) fn contents(size: usize, places: &[u8]) -> Outcome
@@ -45,7 +29,7 @@ pub(crate) fn contents(size: usize, places: &[u8]) -> Outcome
 // The first place that is above 1, or up to which there are more zeros than ones or more ones than the size.
 fn first_fault(size: usize, places: &[u8]) -> usize
     requires { ⌜ (size ≤ largestSize) × (length (now places) ≡ 2 * size) ⌝ }
-    ensures { λ r. ⌜ r ≡ firstFault 0 (length (now (places .entry))) (patternFits size (now (places .entry))) ⌝ }
+    ensures { λ r. ⌜ r ≡ firstFault 0 (length (now (places .entry))) (fits patterns size (now (places .entry))) ⌝ }
 {
     let mut ones = 0;
     let mut i = 0;

@@ -7,6 +7,7 @@ ghost use mathlib.Core.Path.{_≡_};
 ghost use Rattle.shape.specs.Reply.{outcomeReply, numberedReply};
 ghost use Rattle.pattern.specs.Calls.{checkReply, numberReply, shapeReply, shapeEnd, successorReply, successorEnd};
 ghost use Rattle.pattern.specs.Calls.{predecessorReply, predecessorEnd, depthReply, headPart, laterOf, laterPart};
+use shape::Form;
 use shape::Numbered;
 use shape::Outcome;
 use shape::Refusal;
@@ -15,7 +16,7 @@ use shape::Refusal;
 pub fn check(size: usize, places: &[u8]) -> Outcome
     ensures { λ r. ⌜ outcomeReply r ≡ checkReply size (now (places .entry)) ⌝ }
 {
-    match faults::room(size, places) {
+    match shape::room(Form::Pattern, size, places.len()) {
         Outcome::Refused(refusal) => Outcome::Refused(refusal),
         Outcome::Done => faults::contents(size, places),
     }
@@ -36,7 +37,7 @@ pub fn shape(size: usize, number: u64, places: &mut [u8]) -> Outcome
     ensures { λ r. ⌜ outcomeReply r ≡ shapeReply size number (now (places .entry)) ⌝ }
     ensures { λ _. ⌜ now (places .exit) ≡ shapeEnd size number (now (places .entry)) ⌝ }
 {
-    match faults::room(size, places) {
+    match shape::room(Form::Pattern, size, places.len()) {
         Outcome::Refused(refusal) => Outcome::Refused(refusal),
         Outcome::Done => {
             if number >= catalan::catalan(size) {

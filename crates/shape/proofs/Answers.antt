@@ -5,6 +5,7 @@
 --     outcome-refused, outcome-done       what a call says that only says that it was done
 --     chosen-first, chosen-second         which of two things a test chooses
 --     step-refused, step-value, step-left     one step, which is refused exactly where its change is 0
+--     pattern-asks, permutation-asks      how long a form asks a list to be
 --     room-none, room-large, room-other, room-fits      the tests of the size and of the length
 --     room-told, room-some, room-small, room-long       and what their answer tells
 --     asked-refused, asked-past, asked-below, asked-done      the check of a number, after them, against the table's entry
@@ -14,7 +15,7 @@
 use mathlib.Core.Path.{_≡_, refl, sym, ap, _∙_}
 use mathlib.Core.Bool.{Bool, true, false, cond}
 use mathlib.Core.List.{List}
-use Prim.Native.Nat.{ℕ, _≤_, _<_}
+use Prim.Native.Nat.{ℕ, _*_, _≤_, _<_}
 use native.Mathlib.Omega.{arith}
 use lib.Dec.{ltb}
 use lib.ListN.{length}
@@ -24,7 +25,9 @@ use Rattle.catalan.proofs.Tables.{table-within}
 use Rattle.shape.specs.Form.{Form}
 use Rattle.shape.specs.Numbering.{Numbering, total}
 use Rattle.shape.specs.Reply.{outcomeReply, numberedReply, refused}
-use Rattle.shape.specs.Check.{unless, andThen, Sized, roomFor, numberCheck, reply, unlessRefused}
+use Rattle.shape.specs.Check.{unless, andThen, Sized, formOf, roomOf, roomFor, numberCheck, reply, unlessRefused}
+use Rattle.shape.specs.declared.Form.{Form as Name}
+use Rattle.shape.specs.declared.Form.the-variants.{Pattern, Permutation}
 use Rattle.shape.specs.declared.Refusal.{Refusal}
 use Rattle.shape.specs.declared.Refusal.the-variants.{Size, Length, Number}
 use Rattle.shape.specs.declared.Outcome.{Outcome}
@@ -98,33 +101,40 @@ module _ (o : Outcome) (t : Bool) (f : Refusal) (e : o ≡ Done) where
 
 -- ---- room for a list, test by test
 
-module _ (F : Form) (n : ℕ) (p : List ℕ) where
-  pub room-none : n ≡ 0 → Refused Size ≡ roomFor F n p
-  room-none none = sym (room-size F n p .1 (λ s. omega arith))
+pub pattern-asks : (form : Name) (n : ℕ) → form ≡ Pattern → 2 * n ≡ formOf form .lengthOf n
+pattern-asks form n e = rw e
 
-  pub room-large : largestSize < n → Refused Size ≡ roomFor F n p
-  room-large large = sym (room-size F n p .1 (λ s. omega arith))
+pub permutation-asks : (form : Name) (n : ℕ) → form ≡ Permutation → n ≡ formOf form .lengthOf n
+permutation-asks form n e = rw e
 
-  module _ (some : n ≡ 0 → ⊥) (small : n ≤ largestSize) where
-    pub room-other : (length p ≡ F .lengthOf n → ⊥) → Refused Length ≡ roomFor F n p
-    room-other other = sym (room-length F n p .1 ((omega arith, small), other))
+module _ (F : Form) (n m : ℕ) where
+  pub room-none : n ≡ 0 → Refused Size ≡ roomOf F n m
+  room-none none = sym (room-size F n m .1 (λ s. omega arith))
 
-    pub room-fits : length p ≡ F .lengthOf n → Done ≡ roomFor F n p
-    room-fits long = sym (room-done F n p .1 ((omega arith, small), long))
+  pub room-large : largestSize < n → Refused Size ≡ roomOf F n m
+  room-large large = sym (room-size F n m .1 (λ s. omega arith))
 
-  module _ (r : Outcome) (e : r ≡ roomFor F n p) where
-    pub room-told : (o : Outcome) → r ≡ o → roomFor F n p ≡ o
-    room-told o h = sym e ∙ h
+  -- v is the length that the code found the form to ask
+  module _ (v : ℕ) (e : v ≡ F .lengthOf n) (some : n ≡ 0 → ⊥) (small : n ≤ largestSize) where
+    pub room-other : (m ≡ v → ⊥) → Refused Length ≡ roomOf F n m
+    room-other other = sym (room-length F n m .1 ((omega arith, small), λ g. other (g ∙ sym e)))
 
-    module _ (h : r ≡ Done) where
-      pub room-some : 1 ≤ n
-      room-some = room-done F n p .0 (room-told Done h) .0 .0
+    pub room-fits : m ≡ v → Done ≡ roomOf F n m
+    room-fits long = sym (room-done F n m .1 ((omega arith, small), long ∙ e))
 
-      pub room-small : n ≤ largestSize
-      room-small = room-done F n p .0 (room-told Done h) .0 .1
+module _ (F : Form) (n : ℕ) (p : List ℕ) (r : Outcome) (e : r ≡ roomFor F n p) where
+  pub room-told : (o : Outcome) → r ≡ o → roomFor F n p ≡ o
+  room-told o h = sym e ∙ h
 
-      pub room-long : length p ≡ F .lengthOf n
-      room-long = room-done F n p .0 (room-told Done h) .1
+  module _ (h : r ≡ Done) where
+    pub room-some : 1 ≤ n
+    room-some = room-done F n (length p) .0 (room-told Done h) .0 .0
+
+    pub room-small : n ≤ largestSize
+    room-small = room-done F n (length p) .0 (room-told Done h) .0 .1
+
+    pub room-long : length p ≡ F .lengthOf n
+    room-long = room-done F n (length p) .0 (room-told Done h) .1
 
 -- ---- the check of a number
 
@@ -140,7 +150,7 @@ module _ (N : Numbering) (k : ℕ) (p : List ℕ) (r : Outcome) (e : r ≡ roomF
   -- v is what the table of the Catalan numbers says of the size
   module _ (h : r ≡ Done) (v : ℕ) (t : v ≡ tableAt (N .nodes)) where
     there : Sized (N .nodes) × (length p ≡ N .form .lengthOf (N .nodes))
-    there = room-done (N .form) (N .nodes) p .0 (sym e ∙ h)
+    there = room-done (N .form) (N .nodes) (length p) .0 (sym e ∙ h)
 
     limit : v ≡ total N
     limit = t ∙ table-within (N .nodes) (omega (arith, there .0 .1))
@@ -173,6 +183,8 @@ pub ruleset answered = (
   step-refused,
   step-value,
   step-left,
+  pattern-asks,
+  permutation-asks,
   room-none,
   room-large,
   room-other,

@@ -20,7 +20,7 @@ use Rattle.catalan.specs.Count.{largestSize}
 use Rattle.shape.specs.Form.{Form, every, Passes, Tested}
 use Rattle.shape.specs.Numbering.{Numbering, total, WellFormed, Lawful}
 use Rattle.shape.specs.Reply.{refusalNumber}
-use Rattle.shape.specs.Check.{unless, andThen, sized, Sized, roomFor, contents, checked, numberCheck, successorCheck, predecessorCheck}
+use Rattle.shape.specs.Check.{unless, andThen, sized, Sized, roomOf, roomFor, contents, checked, numberCheck, successorCheck, predecessorCheck}
 use Rattle.shape.specs.declared.Refusal.{Refusal}
 use Rattle.shape.specs.declared.Refusal.the-variants.{Size, Length, Entry, Shape, Number, Last, First}
 use Rattle.shape.specs.declared.Outcome.{Outcome}
@@ -80,45 +80,47 @@ refuses-then P (Refused f) next h k = h
 
 -- ---- room for a list, and what it holds
 
+module _ (F : Form) (n m : ℕ) where
+  -- the test of the length
+  abbrev long : Bool
+  long = eqb m (F .lengthOf n)
+
+  long-means : (long ≡ true) ↔ (m ≡ F .lengthOf n)
+  long-means = equal-means m (F .lengthOf n)
+
+  pub room-size : (roomOf F n m ≡ Refused Size) ↔ (Sized n → ⊥)
+  unfolding roomOf
+  room-size =
+      failed (sized n) Size (unless long Length Done) (sized-means n) (refuses-unless (λ i. 1 < i) long Length Done (omega arith) tt)
+
+  pub room-length : (roomOf F n m ≡ Refused Length) ↔ (Sized n × (m ≡ F .lengthOf n → ⊥))
+  unfolding roomOf
+  room-length = passed (sized n) Size (unless long Length Done) (Refused Length) (sized-means n) (omega arith) (failed long Length Done long-means tt)
+
+  pub room-done : (roomOf F n m ≡ Done) ↔ (Sized n × (m ≡ F .lengthOf n))
+  unfolding roomOf
+  room-done = passed (sized n) Size (unless long Length Done) Done (sized-means n) tt (passed-last long Length long-means)
+
+  -- refusals 1 and 2 only
+  room-most : (P : ℕ → Type 0) → P 1 → P 2 → Refuses P (roomOf F n m)
+  unfolding roomOf
+  room-most P g h = refuses-unless P (sized n) Size (unless long Length Done) g (refuses-unless P long Length Done h tt)
+
 module _ (F : Form) (n : ℕ) (p : List ℕ) where
   abbrev Long : Type 0
   Long = length p ≡ F .lengthOf n
 
   -- the tests
-  abbrev long : Bool
-  long = eqb (length p) (F .lengthOf n)
-
   abbrev entries : Bool
   entries = every (length p) (F .entryTest n p)
 
   abbrev shape : Bool
   shape = every (length p) (F .shapeTest n p)
 
-  long-means : (long ≡ true) ↔ Long
-  long-means = equal-means (length p) (F .lengthOf n)
-
-  pub room-size : (roomFor F n p ≡ Refused Size) ↔ (Sized n → ⊥)
-  unfolding roomFor
-  room-size =
-      failed (sized n) Size (unless long Length Done) (sized-means n) (refuses-unless (λ m. 1 < m) long Length Done (omega arith) tt)
-
-  pub room-length : (roomFor F n p ≡ Refused Length) ↔ (Sized n × (Long → ⊥))
-  unfolding roomFor
-  room-length = passed (sized n) Size (unless long Length Done) (Refused Length) (sized-means n) (omega arith) (failed long Length Done long-means tt)
-
-  pub room-done : (roomFor F n p ≡ Done) ↔ (Sized n × Long)
-  unfolding roomFor
-  room-done = passed (sized n) Size (unless long Length Done) Done (sized-means n) tt (passed-last long Length long-means)
-
-  -- refusals 1 and 2 only
-  room-most : (P : ℕ → Type 0) → P 1 → P 2 → Refuses P (roomFor F n p)
-  unfolding roomFor
-  room-most P g h = refuses-unless P (sized n) Size (unless long Length Done) g (refuses-unless P long Length Done h tt)
-
   -- what comes after them
   room-after : {Q : Type 0} (next a : Outcome) → Refuses (λ m. 3 ≤ m) a → (next ≡ a) ↔ Q → (andThen (roomFor F n p) next ≡ a) ↔ (Sized n × Long × Q)
   room-after next a h e =
-      Iff·trans (then-second 3 (roomFor F n p) next a (room-most (λ m. m < 3) (omega arith) (omega arith)) h room-done e) (
+      Iff·trans (then-second 3 (roomFor F n p) next a (room-most F n (length p) (λ m. m < 3) (omega arith) (omega arith)) h (room-done F n (length p)) e) (
         λ ((s, l), q). (s, l, q),
         λ (s, l, q). ((s, l), q),
       )
@@ -149,19 +151,19 @@ module _ (F : Form) (n : ℕ) (p : List ℕ) where
   pub checked-size : (checked F n p ≡ Refused Size) ↔ (Sized n → ⊥)
   unfolding checked
   checked-size =
-      Iff·trans (then-first (roomFor F n p) (contents F n p) Size (refuses-contents (λ m. 1 < m) (omega arith) (omega arith))) room-size
+      Iff·trans (then-first (roomFor F n p) (contents F n p) Size (refuses-contents (λ m. 1 < m) (omega arith) (omega arith))) (room-size F n (length p))
 
   pub checked-length : (checked F n p ≡ Refused Length) ↔ (Sized n × (length p ≡ F .lengthOf n → ⊥))
   unfolding checked
   checked-length =
-      Iff·trans (then-first (roomFor F n p) (contents F n p) Length (refuses-contents (λ m. 2 < m) (omega arith) (omega arith))) room-length
+      Iff·trans (then-first (roomFor F n p) (contents F n p) Length (refuses-contents (λ m. 2 < m) (omega arith) (omega arith))) (room-length F n (length p))
 
   -- refusals 1 to 4 only
   checked-most : Refuses (λ m. m < 5) (checked F n p)
   unfolding checked
   checked-most =
       let P : ℕ → Type 0 = λ m. m < 5 in
-      refuses-then P (roomFor F n p) (contents F n p) (room-most P (omega arith) (omega arith)) (refuses-contents P (omega arith) (omega arith))
+      refuses-then P (roomFor F n p) (contents F n p) (room-most F n (length p) P (omega arith) (omega arith)) (refuses-contents P (omega arith) (omega arith))
 
 module _ (F : Form) (tested : Tested F) (n : ℕ) (p : List ℕ) where
   pub checked-shape : (checked F n p ≡ Refused Shape)
@@ -204,13 +206,13 @@ module _ (N : Numbering) (k : ℕ) (p : List ℕ) where
   unfolding numberCheck
   number-size =
       Iff·trans (then-first room asked Size (refuses-unless (λ m. 1 < m) (ltb k (total N)) Number Done (omega arith) tt))
-      (room-size (N .form) (N .nodes) p)
+      (room-size (N .form) (N .nodes) (length p))
 
   pub number-length : (numberCheck N k p ≡ Refused Length) ↔ (Sized (N .nodes) × (length p ≡ N .form .lengthOf (N .nodes) → ⊥))
   unfolding numberCheck
   number-length =
       Iff·trans (then-first room asked Length (refuses-unless (λ m. 2 < m) (ltb k (total N)) Number Done (omega arith) tt))
-      (room-length (N .form) (N .nodes) p)
+      (room-length (N .form) (N .nodes) (length p))
 
 -- ---- a step
 

@@ -18,6 +18,7 @@ pub mod Meanings
 pub mod HandChecked
 pub mod Replies
 pub mod Checks
+pub mod Searches
 pub mod Answers
 pub mod Returns
 pub mod Determined

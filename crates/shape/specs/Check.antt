@@ -2,7 +2,9 @@
 --     unless t f next       refused for f where the test t fails, and otherwise what comes next
 --     andThen               the first refusal of two checks
 --     sized n, Sized n      the test of a size, and what it tests
---     roomFor, contents     what is asked of a list that is written, and of what a list holds
+--     formOf                the form that a caller names
+--     roomOf, roomFor       what is asked of a list that is written, by its length
+--     contents              and of what a list holds
 --     checked F n p         a list that is lent to be read as a shape of size n, written in the form F: refusals 1 to 4
 --     numberCheck, successorCheck, predecessorCheck      refusals 1 to 7 of the calls over a numbering
 --     numbered, reply       what a call answers after a check, and what that says
@@ -14,9 +16,11 @@ use Prim.Native.Nat.{ℕ, _+_, _≤_}
 use lib.Dec.{leb, ltb, eqb}
 use lib.ListN.{length}
 use Rattle.catalan.specs.Count.{largestSize}
-use Rattle.shape.specs.Form.{Form, every}
+use Rattle.shape.specs.Form.{Form, patterns, permutations, every}
 use Rattle.shape.specs.Numbering.{Numbering, total}
 use Rattle.shape.specs.Reply.{Reply, numberedReply}
+use Rattle.shape.specs.declared.Form.{Form as Name}
+use Rattle.shape.specs.declared.Form.the-variants.{Pattern, Permutation}
 use Rattle.shape.specs.declared.Refusal.{Refusal}
 use Rattle.shape.specs.declared.Refusal.the-variants.{Size, Length, Entry, Shape, Number, Last, First}
 use Rattle.shape.specs.declared.Outcome.{Outcome}
@@ -39,9 +43,17 @@ sized n = leb 1 n && leb n largestSize
 abbrev pub Sized : ℕ → Type 0
 Sized n = (1 ≤ n) × (n ≤ largestSize)
 
--- 1 and 2: all that is asked of a list that is only written.
-unfoldable pub roomFor : Form → ℕ → List ℕ → Outcome
-roomFor F n p = unless (sized n) Size (unless (eqb (length p) (F .lengthOf n)) Length Done)
+abbrev pub formOf : Name → Form
+formOf Pattern = patterns
+formOf Permutation = permutations
+
+-- 1 and 2, of a list of m entries.
+unfoldable pub roomOf : Form → ℕ → ℕ → Outcome
+roomOf F n m = unless (sized n) Size (unless (eqb m (F .lengthOf n)) Length Done)
+
+-- All that is asked of a list that is only written.
+abbrev pub roomFor : Form → ℕ → List ℕ → Outcome
+roomFor F n p = roomOf F n (length p)
 
 -- 3 and 4.
 unfoldable pub contents : Form → ℕ → List ℕ → Outcome

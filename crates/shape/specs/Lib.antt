@@ -6,5 +6,6 @@ pub mod Number
 pub mod Numbering
 pub mod Reply
 pub mod Check
+pub mod Faults
 pub mod Determined
 pub mod Lines

@@ -1,6 +1,16 @@
-// What a shape is. The meanings stand in `specs/`, and what is proved of them in `proofs/`; the code here is what every call answers with.
+// What a shape is. The meanings stand in `specs/`, and what is proved of them in `proofs/`; the code here is what every call answers with,
+// and what it asks first.
 ghost use mathlib.Core.Path.{_≡_};
+ghost use Prim.Native.Nat.{_≤_};
+ghost use Rattle.catalan.specs.Count.{largestSize};
 ghost use Rattle.shape.specs.Reply.{refusalNumber};
+ghost use Rattle.shape.specs.Check.{formOf, roomOf};
+
+// How a shape is written.
+pub enum Form {
+    Pattern,
+    Permutation,
+}
 
 // Why a call refuses, in the order of the refusals' numbers, 1 to 11. Where several apply, a call gives the first, but for the
 // exceptions that the scope lists.
@@ -59,5 +69,31 @@ impl Refusal {
             Refusal::Record => 10,
             Refusal::Input => 11,
         }
+    }
+}
+
+// Whether the size is one, and a slice of that length as long as the form asks.
+pub fn room(form: Form, size: usize, length: usize) -> Outcome
+    ensures { λ r. ⌜ r ≡ roomOf (formOf form) size length ⌝ }
+{
+    if size == 0 {
+        return Outcome::Refused(Refusal::Size);
+    }
+    if size > 35 {
+        return Outcome::Refused(Refusal::Size);
+    }
+    if length != length_of(form, size) {
+        return Outcome::Refused(Refusal::Length);
+    }
+    Outcome::Done
+}
+
+fn length_of(form: Form, size: usize) -> usize
+    requires { ⌜ size ≤ largestSize ⌝ }
+    ensures { λ r. ⌜ r ≡ formOf form .lengthOf size ⌝ }
+{
+    match form {
+        Form::Pattern => 2 * size,
+        Form::Permutation => size,
     }
 }

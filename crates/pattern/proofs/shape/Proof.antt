@@ -18,17 +18,13 @@ shape-spec =
     (λ c. search answers)
     -- catalan-requires
     (λ c κs. search answers)
-    -- same-length
-    (λ c. search answers)
     -- returns
     (λ c. search answers)
     -- shape-requires
     (λ c κs. search answers)
-    -- same-length-2
-    (λ c. search answers)
     -- returns-2
     (λ c. search answers)
-    -- same-length-3
+    -- same-length
     (λ c. search answers)
     -- returns-3
     (λ c. search answers))

@@ -1,11 +1,11 @@
 -- `pattern::faults::contents` meets its contract: what the two searches find is what is asked of the contents.
 -- Assumes nothing.
 use borrow.Author.Needs.{needs}
-use Rattle.pattern.proofs.Searches.{fault-within, contents-done, contents-entry, contents-shape}
+use Rattle.pattern.proofs.Searches.{pattern-fault, pattern-done, pattern-entry, pattern-shape}
 use Rattle.pattern.proofs.faults.contents.Statement.{statement}
 use Rattle.pattern.proofs.faults.contents.Tie as tie
 
-ruleset turn = (needs, fault-within, contents-done, contents-entry, contents-shape)
+ruleset turn = (needs, pattern-fault, pattern-done, pattern-entry, pattern-shape)
 
 pub contents-spec : {M : Type 1} → statement M
 contents-spec =

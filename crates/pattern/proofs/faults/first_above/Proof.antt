@@ -6,8 +6,8 @@ use lib.Dec.{leb}
 use lib.ListN.{length, getD}
 use borrow.Author.Needs.{needs}
 use borrow.Author.Tests.{le-leb, lt-leb}
-use Rattle.pattern.specs.Faults.{firstFault}
-use Rattle.pattern.proofs.Searches.{search-on, search-hit, search-end}
+use Rattle.shape.specs.Faults.{firstFault}
+use Rattle.shape.proofs.Searches.{search-on, search-hit, search-end}
 use Rattle.pattern.proofs.faults.first_above.Statement.{statement}
 use Rattle.pattern.proofs.faults.first_above.Tie as tie
 
