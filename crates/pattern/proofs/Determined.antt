@@ -14,8 +14,8 @@ use Rattle.shape.specs.declared.Outcome.{Outcome}
 use Rattle.shape.specs.declared.Numbered.{Numbered}
 use Rattle.shape.specs.Determined.{Determined, determined, exact-both}
 use Rattle.shape.proofs.Replies.{outcome-exact, numbered-exact}
-use Rattle.pattern.specs.Calls.{checkReply, numberReply, depthReply, shapeReply, shapeEnd, successorReply, successorEnd}
-use Rattle.pattern.specs.Calls.{predecessorReply, predecessorEnd, headPart, laterOf, laterPart}
+use Rattle.shape.specs.Calls.{checkReply, numberReply, shapeReply, shapeEnd, successorEnd, predecessorEnd}
+use Rattle.pattern.specs.Calls.{successorChange, predecessorChange, depthReply, headPart, laterOf, laterPart}
 use Rattle.pattern.proofs.check.Reads as check
 use Rattle.pattern.proofs.number.Reads as number
 use Rattle.pattern.proofs.shape.Reads as shape
@@ -44,18 +44,18 @@ unfolding depthReply
 depth-determined = determined (λ κ a. tt) (λ κ a r s. numbered-exact r _)
 
 pub shape-determined : Determined (Outcome × List ℕ) shape.Pre shape.Post (λ κ r (_, (_, (q, _))). (r, now q))
-    (λ κ (n, (k, (p, _))). (numberCheck (local n) k (now p), shapeEnd n k (now p)))
+    (λ κ (n, (k, (p, _))). (numberCheck (local n) k (now p), shapeEnd (local n) k (now p)))
 unfolding shapeReply
 shape-determined = determined (λ κ a. tt) (λ κ a r s. exact-both (outcome-exact r _) Iff·rfl)
 
 pub successor-determined : Determined (Numbered × List ℕ) successor.Pre successor.Post (λ κ r (_, (q, _)). (r, now q))
-    (λ κ (n, (p, _)). (numbered (successorCheck (local n) (now p)) (change n (localNumber (now p) + 1)), successorEnd n (now p)))
-unfolding successorReply
+    (λ κ (n, (p, _)). (numbered (successorCheck (local n) (now p)) (change n (localNumber (now p) + 1)), successorEnd (local n) (now p)))
+unfolding successorChange
 successor-determined = determined (λ κ a. tt) (λ κ a r s. exact-both (numbered-exact r _) Iff·rfl)
 
 pub predecessor-determined : Determined (Numbered × List ℕ) predecessor.Pre predecessor.Post (λ κ r (_, (q, _)). (r, now q))
-    (λ κ (n, (p, _)). (numbered (predecessorCheck (local n) (now p)) (change n (localNumber (now p))), predecessorEnd n (now p)))
-unfolding predecessorReply
+    (λ κ (n, (p, _)). (numbered (predecessorCheck (local n) (now p)) (change n (localNumber (now p))), predecessorEnd (local n) (now p)))
+unfolding predecessorChange
 predecessor-determined = determined (λ κ a. tt) (λ κ a r s. exact-both (numbered-exact r _) Iff·rfl)
 
 pub head-determined : Determined Part head.Pre head.Post (λ κ r s. (ptr r, now r)) (λ κ (n, (p, _)). (ptr p, headPart n (now p)))

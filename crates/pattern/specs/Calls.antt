@@ -1,9 +1,6 @@
--- What each call on patterns answers, and what it leaves in a lent slice, for every size n, every list p that the slice holds and every
--- number k. A refusal says its number and nothing else, and the slice stays as it was lent.
---     checkReply, numberReply, depthReply      of a pattern that is only read
---     shapeReply, shapeEnd                     the pattern with a number
---     successorReply, successorEnd             one step on
---     predecessorReply, predecessorEnd         one step back
+-- What the calls on patterns answer besides what a call over any numbering does, for every size n and every list p that the slice holds.
+--     successorChange, predecessorChange       the change of a step, on and back
+--     depthReply                               the depth
 --     headPart                                 what the head holds; it starts where the slice starts
 --     laterCheck, laterPart, laterOf           what the later of two holds, and which of the two slices it is a part of
 -- Assumes nothing.
@@ -13,38 +10,18 @@ use Prim.Native.Nat.{ℕ, _+_}
 use lib.Dec.{ltb}
 use Rattle.shape.specs.Tree.{head}
 use Rattle.shape.specs.Form.{patternTree, patterns}
-use Rattle.shape.specs.Number.{localNumber, localPattern, change, depth}
-use Rattle.shape.specs.Numbering.{local, next, previous}
-use Rattle.shape.specs.Reply.{Reply, outcomeReply}
-use Rattle.shape.specs.Check.{andThen, checked, numberCheck, successorCheck, predecessorCheck, reply, unlessRefused}
+use Rattle.shape.specs.Number.{localNumber, change, depth}
+use Rattle.shape.specs.Numbering.{local}
+use Rattle.shape.specs.Reply.{Reply}
+use Rattle.shape.specs.Check.{andThen, checked, successorCheck, predecessorCheck, reply, unlessRefused}
 use Rattle.shape.specs.declared.Outcome.{Outcome}
 
--- 01, Refusal numbers, 1 to 4.
-unfoldable pub checkReply : ℕ → List ℕ → Reply
-checkReply n p = outcomeReply (checked patterns n p)
-
--- 01, Two orders.
-unfoldable pub numberReply : ℕ → List ℕ → Reply
-numberReply n p = reply (checked patterns n p) (localNumber p)
-
-unfoldable pub shapeReply : ℕ → ℕ → List ℕ → Reply
-shapeReply n k p = outcomeReply (numberCheck (local n) k p)
-
-unfoldable pub shapeEnd : ℕ → ℕ → List ℕ → List ℕ
-shapeEnd n k p = unlessRefused (numberCheck (local n) k p) (localPattern n k) p
-
 -- 01, Change, run, figure: a successor answers the change of the new pattern, a predecessor that of the old one.
-unfoldable pub successorReply : ℕ → List ℕ → Reply
-successorReply n p = reply (successorCheck (local n) p) (change n (localNumber p + 1))
+unfoldable pub successorChange : ℕ → List ℕ → Reply
+successorChange n p = reply (successorCheck (local n) p) (change n (localNumber p + 1))
 
-unfoldable pub successorEnd : ℕ → List ℕ → List ℕ
-successorEnd n p = unlessRefused (successorCheck (local n) p) (next (local n) p) p
-
-unfoldable pub predecessorReply : ℕ → List ℕ → Reply
-predecessorReply n p = reply (predecessorCheck (local n) p) (change n (localNumber p))
-
-unfoldable pub predecessorEnd : ℕ → List ℕ → List ℕ
-predecessorEnd n p = unlessRefused (predecessorCheck (local n) p) (previous (local n) p) p
+unfoldable pub predecessorChange : ℕ → List ℕ → Reply
+predecessorChange n p = reply (predecessorCheck (local n) p) (change n (localNumber p))
 
 -- 01, Depth, head, later.
 unfoldable pub depthReply : ℕ → List ℕ → Reply

@@ -4,9 +4,11 @@ mod faults;
 
 ghost use denote.Ref.{ptr};
 ghost use mathlib.Core.Path.{_≡_};
+ghost use Rattle.shape.specs.Form.{patterns};
+ghost use Rattle.shape.specs.Numbering.{local};
 ghost use Rattle.shape.specs.Reply.{outcomeReply, numberedReply};
-ghost use Rattle.pattern.specs.Calls.{checkReply, numberReply, shapeReply, shapeEnd, successorReply, successorEnd};
-ghost use Rattle.pattern.specs.Calls.{predecessorReply, predecessorEnd, depthReply, headPart, laterOf, laterPart};
+ghost use Rattle.shape.specs.Calls.{checkReply, numberReply, shapeReply, shapeEnd, successorEnd, predecessorEnd};
+ghost use Rattle.pattern.specs.Calls.{successorChange, predecessorChange, depthReply, headPart, laterOf, laterPart};
 use shape::Form;
 use shape::Numbered;
 use shape::Outcome;
@@ -14,7 +16,7 @@ use shape::Refusal;
 
 // Whether the places are a pattern of the size.
 pub fn check(size: usize, places: &[u8]) -> Outcome
-    ensures { λ r. ⌜ outcomeReply r ≡ checkReply size (now (places .entry)) ⌝ }
+    ensures { λ r. ⌜ outcomeReply r ≡ checkReply patterns size (now (places .entry)) ⌝ }
 {
     match shape::room(Form::Pattern, size, places.len()) {
         Outcome::Refused(refusal) => Outcome::Refused(refusal),
@@ -24,7 +26,7 @@ pub fn check(size: usize, places: &[u8]) -> Outcome
 
 // The pattern's local number.
 pub fn number(size: usize, places: &[u8]) -> Numbered
-    ensures { λ r. ⌜ numberedReply r ≡ numberReply size (now (places .entry)) ⌝ }
+    ensures { λ r. ⌜ numberedReply r ≡ numberReply (local size) (now (places .entry)) ⌝ }
 {
     match check(size, places) {
         Outcome::Refused(refusal) => Numbered::Refused(refusal),
@@ -34,8 +36,8 @@ pub fn number(size: usize, places: &[u8]) -> Numbered
 
 // The pattern with that local number, put into `places`, which may hold anything before.
 pub fn shape(size: usize, number: u64, places: &mut [u8]) -> Outcome
-    ensures { λ r. ⌜ outcomeReply r ≡ shapeReply size number (now (places .entry)) ⌝ }
-    ensures { λ _. ⌜ now (places .exit) ≡ shapeEnd size number (now (places .entry)) ⌝ }
+    ensures { λ r. ⌜ outcomeReply r ≡ shapeReply (local size) number (now (places .entry)) ⌝ }
+    ensures { λ _. ⌜ now (places .exit) ≡ shapeEnd (local size) number (now (places .entry)) ⌝ }
 {
     match shape::room(Form::Pattern, size, places.len()) {
         Outcome::Refused(refusal) => Outcome::Refused(refusal),
@@ -51,8 +53,8 @@ pub fn shape(size: usize, number: u64, places: &mut [u8]) -> Outcome
 
 // The next pattern, in the place of this one, and its change.
 pub fn successor(size: usize, places: &mut [u8]) -> Numbered
-    ensures { λ r. ⌜ numberedReply r ≡ successorReply size (now (places .entry)) ⌝ }
-    ensures { λ _. ⌜ now (places .exit) ≡ successorEnd size (now (places .entry)) ⌝ }
+    ensures { λ r. ⌜ numberedReply r ≡ successorChange size (now (places .entry)) ⌝ }
+    ensures { λ _. ⌜ now (places .exit) ≡ successorEnd (local size) (now (places .entry)) ⌝ }
 {
     match check(size, places) {
         Outcome::Refused(refusal) => Numbered::Refused(refusal),
@@ -68,8 +70,8 @@ pub fn successor(size: usize, places: &mut [u8]) -> Numbered
 
 // The pattern before this one, in its place, and the change that is taken back: that of the old one.
 pub fn predecessor(size: usize, places: &mut [u8]) -> Numbered
-    ensures { λ r. ⌜ numberedReply r ≡ predecessorReply size (now (places .entry)) ⌝ }
-    ensures { λ _. ⌜ now (places .exit) ≡ predecessorEnd size (now (places .entry)) ⌝ }
+    ensures { λ r. ⌜ numberedReply r ≡ predecessorChange size (now (places .entry)) ⌝ }
+    ensures { λ _. ⌜ now (places .exit) ≡ predecessorEnd (local size) (now (places .entry)) ⌝ }
 {
     match check(size, places) {
         Outcome::Refused(refusal) => Numbered::Refused(refusal),

@@ -8,6 +8,8 @@
 --     pattern-asks, permutation-asks      how long a form asks a list to be
 --     room-none, room-large, room-other, room-fits      the tests of the size and of the length
 --     room-told, room-some, room-small, room-long       and what their answer tells
+--     check-refused, check-contents       what a check says, after them
+--     check-told, done-some, done-small   and what its answer tells
 --     asked-refused, asked-past, asked-below, asked-done      the check of a number, after them, against the table's entry
 --     asked-kept, asked-lent              what is left in the list that the shape would have been written to
 --     answered                            those of them that leave the form to the goal, for `search`
@@ -25,7 +27,8 @@ use Rattle.catalan.proofs.Tables.{table-within}
 use Rattle.shape.specs.Form.{Form}
 use Rattle.shape.specs.Numbering.{Numbering, total}
 use Rattle.shape.specs.Reply.{outcomeReply, numberedReply, refused}
-use Rattle.shape.specs.Check.{unless, andThen, Sized, formOf, roomOf, roomFor, numberCheck, reply, unlessRefused}
+use Rattle.shape.specs.Check.{unless, andThen, Sized, formOf, roomOf, roomFor, contents, checked, numberCheck, reply, unlessRefused}
+use Rattle.shape.specs.Calls.{checkReply}
 use Rattle.shape.specs.declared.Form.{Form as Name}
 use Rattle.shape.specs.declared.Form.the-variants.{Pattern, Permutation}
 use Rattle.shape.specs.declared.Refusal.{Refusal}
@@ -33,7 +36,8 @@ use Rattle.shape.specs.declared.Refusal.the-variants.{Size, Length, Numb
 use Rattle.shape.specs.declared.Outcome.{Outcome}
 use Rattle.shape.specs.declared.Outcome.the-variants.{Done, Refused}
 use Rattle.shape.specs.declared.Numbered.the-variants.{Value}
-use Rattle.shape.proofs.Checks.{room-size, room-length, room-done, number-refused, number-done}
+use Rattle.shape.proofs.Replies.{outcome-known}
+use Rattle.shape.proofs.Checks.{room-size, room-length, room-done, done-sized, number-refused, number-done}
 
 -- ---- what follows a check
 
@@ -136,6 +140,31 @@ module _ (F : Form) (n : ℕ) (p : List ℕ) (r : Outcome) (e : r ≡ roomFor F 
     pub room-long : length p ≡ F .lengthOf n
     room-long = room-done F n (length p) .0 (room-told Done h) .1
 
+-- ---- the check of a list that is read
+
+module _ (F : Form) (n : ℕ) (p : List ℕ) where
+  -- o is what the size and the length were found to be
+  module _ (o : Outcome) (e : o ≡ roomFor F n p) where
+    pub check-refused : (f : Refusal) → o ≡ Refused f → refused f ≡ checkReply F n p
+    unfolding checkReply checked
+    check-refused f h = ap (λ r. outcomeReply (andThen r (contents F n p))) (sym h ∙ e)
+
+    pub check-contents : (c : Outcome) → o ≡ Done → c ≡ contents F n p → outcomeReply c ≡ checkReply F n p
+    unfolding checkReply checked
+    check-contents c h d = ap outcomeReply (d ∙ ap (λ r. andThen r (contents F n p)) (sym h ∙ e))
+
+  module _ (r : Outcome) (e : outcomeReply r ≡ checkReply F n p) where
+    pub check-told : (o : Outcome) → r ≡ o → checked F n p ≡ o
+    unfolding checkReply
+    check-told o h = sym (outcome-known r (checked F n p) e) ∙ h
+
+    module _ (h : r ≡ Done) where
+      pub done-some : 1 ≤ n
+      done-some = done-sized F n p (check-told Done h) .0
+
+      pub done-small : n ≤ largestSize
+      done-small = done-sized F n p (check-told Done h) .1
+
 -- ---- the check of a number
 
 module _ (N : Numbering) (k : ℕ) (p : List ℕ) (r : Outcome) (e : r ≡ roomFor (N .form) (N .nodes) p) where
@@ -189,6 +218,11 @@ pub ruleset answered = (
   room-large,
   room-other,
   room-fits,
+  check-refused,
+  check-contents,
+  check-told,
+  done-some,
+  done-small,
   asked-refused,
   asked-past,
   asked-done,

@@ -7,5 +7,6 @@ pub mod Numbering
 pub mod Reply
 pub mod Check
 pub mod Faults
+pub mod Calls
 pub mod Determined
 pub mod Lines

@@ -1,6 +1,6 @@
 -- `pattern::number` meets its contract: the check's refusal, or what `local::number` says of a pattern.
 -- Assumes nothing.
-use Rattle.pattern.specs.Calls.{numberReply}
+use Rattle.shape.specs.Calls.{numberReply}
 use Rattle.pattern.proofs.Answers.{answers}
 use Rattle.pattern.proofs.number.Statement.{statement}
 use Rattle.pattern.proofs.number.Tie as tie

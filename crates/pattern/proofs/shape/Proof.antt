@@ -1,6 +1,6 @@
 -- `pattern::shape` meets its contract: a refusal of the size or of the length, then that of the number, or what `local::shape` writes.
 -- Assumes nothing.
-use Rattle.pattern.specs.Calls.{shapeReply, shapeEnd}
+use Rattle.shape.specs.Calls.{shapeReply, shapeEnd}
 use Rattle.pattern.proofs.Answers.{answers}
 use Rattle.pattern.proofs.shape.Statement.{statement}
 use Rattle.pattern.proofs.shape.Tie as tie

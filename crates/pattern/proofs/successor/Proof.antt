@@ -1,14 +1,15 @@
 -- `pattern::successor` meets its contract: the check's refusal, or the last's, where `local::next` finds no change, or that change.
 -- Assumes nothing.
 use Rattle.shape.specs.Check.{successorCheck}
+use Rattle.shape.specs.Calls.{successorEnd}
 use Rattle.local.specs.Places.{nextChange, nextPattern}
-use Rattle.pattern.specs.Calls.{successorReply, successorEnd}
+use Rattle.pattern.specs.Calls.{successorChange}
 use Rattle.pattern.proofs.Answers.{answers}
 use Rattle.pattern.proofs.successor.Statement.{statement}
 use Rattle.pattern.proofs.successor.Tie as tie
 
 pub successor-spec : {M : Type 1} → statement M
-unfolding successorReply successorEnd successorCheck nextChange nextPattern
+unfolding successorChange successorEnd successorCheck nextChange nextPattern
 successor-spec =
     tie.close
     (tie.spec
