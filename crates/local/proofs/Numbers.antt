@@ -20,7 +20,6 @@ use native.Mathlib.Decide.{decLe}
 use native.Mathlib.Numerals.{add-one}
 use native.Mathlib.Omega.{arith}
 use lib.ListN.{length, getD, set, take, drop, replicate, length-set, drop-of-length-le}
-use lib.Seq.{drop-cons}
 use mir.Syntax.{w64}
 use mir.Val.{Fits}
 use Rattle.catalan.specs.Count.{C, ways, largestSize}
@@ -29,6 +28,7 @@ use Rattle.catalan.proofs.Counting.{words-one, ways-words, ways-none, ways-step
 use Rattle.catalan.proofs.Rows.{row-at}
 use Rattle.shape.specs.Form.{count, Feasible}
 use Rattle.shape.specs.Number.{localNumber, localPlaces, localPattern}
+use Rattle.shape.proofs.Backwards.{from-before}
 use Rattle.shape.proofs.Counts.{count-split}
 use Rattle.shape.proofs.Patterns.{Word, done, zero-next, one-next, word-length, feasible-word, feasible-length}
 use Rattle.shape.proofs.LocalNumbers.{next-zero, next-one, local-lawful}
@@ -82,9 +82,7 @@ passed-all n p i k a b m h = let none : i ≡ 0 = omega arith in m .number ∙ r
 
 module _ (n : ℕ) (p : List ℕ) (g : Feasible n p) (small : n ≤ largestSize) (i k a b : ℕ) (m : Passed n p i k a b) (low : 0 < i) where
   from : drop (i - 1) p ≡ getD p (i - 1) 0 ∷ drop i p
-  from =
-      let next : suc (i - 1) ≡ i = omega arith in
-      drop-cons p (i - 1) 0 (omega (arith, m .on)) ∙ rw next
+  from = from-before p i low (omega (arith, m .on))
 
   module _ (z : getD p (i - 1) 0 ≡ 0) where
     here-zero : drop (i - 1) p ≡ 0 ∷ drop i p

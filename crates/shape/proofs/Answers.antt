@@ -2,9 +2,11 @@
 --     then-refused, then-next             a check after another: the first one's refusal, or what comes next
 --     said-refused, said-value            what a call says that has a value to say
 --     left-old, left-new                  what it leaves in a lent list, or hands back
---     outcome-refused, outcome-done       what a call says that only says that it was done
+--     outcome-refused, outcome-passed, outcome-done       what a call says that only says that it was done
 --     chosen-first, chosen-second         which of two things a test chooses
---     step-refused, step-value, step-left     one step, which is refused exactly where its change is 0
+--     step-refused, step-value            one step, which is refused exactly where its change is 0
+--     step-done, step-none                one step that only says that it was done
+--     step-left                           and what either leaves
 --     pattern-asks, permutation-asks      how long a form asks a list to be
 --     room-none, room-large, room-other, room-fits      the tests of the size and of the length
 --     room-told, room-some, room-small, room-long       and what their answer tells
@@ -66,6 +68,9 @@ module _ {A : Type 0} (o : Outcome) where
 pub outcome-refused : (o : Outcome) (f : Refusal) → o ≡ Refused f → refused f ≡ outcomeReply o
 outcome-refused o f e = rw e
 
+pub outcome-passed : (o r : Outcome) (f : Refusal) → r ≡ Refused f → o ≡ r → refused f ≡ outcomeReply o
+outcome-passed o r f e h = rw (h, e)
+
 pub outcome-done : (o : Outcome) → o ≡ Done → outcomeReply Done ≡ outcomeReply o
 outcome-done o e = rw e
 
@@ -95,6 +100,14 @@ module _ (o : Outcome) (t : Bool) (f : Refusal) (e : o ≡ Done) where
         by-test : (t : Bool) → v ≡ cond t c 0 → numberedReply (Value v) ≡ reply (unless t f Done) c
         by-test true g = ap (λ (x : ℕ). numberedReply (Value x)) g
         by-test false g = absurd (some g)
+
+  -- a step that only says that it was done; b is whether the code found one
+  module _ (b : Bool) (g : b ≡ t) where
+    pub step-done : b ≡ true → outcomeReply Done ≡ outcomeReply (andThen o (unless t f Done))
+    step-done h = rw (e, ← g, h)
+
+    pub step-none : b ≡ false → refused f ≡ outcomeReply (andThen o (unless t f Done))
+    step-none h = rw (e, ← g, h)
 
   pub step-left : {A : Type 0} (x new old : A) → x ≡ cond t new old → x ≡ unlessRefused (andThen o (unless t f Done)) new old
   step-left x new old g = rw (e, g) (by-test t)
@@ -206,11 +219,14 @@ pub ruleset answered = (
   asked-kept,
   asked-lent,
   outcome-refused,
+  outcome-passed,
   outcome-done,
   chosen-first,
   chosen-second,
   step-refused,
   step-value,
+  step-done,
+  step-none,
   step-left,
   pattern-asks,
   permutation-asks,

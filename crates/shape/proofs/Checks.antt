@@ -1,6 +1,7 @@
 -- What the checks answer, exactly when: each refusal where its own test fails and no lower one does, and done where none fails.
 --     sized-means                        the test of a size passes for 1 to 35
 --     room-size, room-length, room-done  refusals 1 and 2 of a list that is only written
+--     room-after                         what a check answers after these two, 3 or above
 --     checked-size, checked-length, checked-entry, checked-shape       refusals 1 to 4 of a list that is lent to be read
 --     checked-passes, checked-done       done: the size is one and the list passes all tests; the size is one and the list is well formed
 --     done-sized, done-formed            the same, one way
@@ -118,7 +119,7 @@ module _ (F : Form) (n : ℕ) (p : List ℕ) where
   shape = every (length p) (F .shapeTest n p)
 
   -- what comes after them
-  room-after : {Q : Type 0} (next a : Outcome) → Refuses (λ m. 3 ≤ m) a → (next ≡ a) ↔ Q → (andThen (roomFor F n p) next ≡ a) ↔ (Sized n × Long × Q)
+  pub room-after : {Q : Type 0} (next a : Outcome) → Refuses (λ m. 3 ≤ m) a → (next ≡ a) ↔ Q → (andThen (roomFor F n p) next ≡ a) ↔ (Sized n × Long × Q)
   room-after next a h e =
       Iff·trans (then-second 3 (roomFor F n p) next a (room-most F n (length p) (λ m. m < 3) (omega arith) (omega arith)) h (room-done F n (length p)) e) (
         λ ((s, l), q). (s, l, q),

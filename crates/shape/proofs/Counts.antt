@@ -4,6 +4,8 @@
 --     count-next         of the first i entries and one more
 --     place-counts       of a place alone: it is a one or a zero
 --     zeros-and-ones     a list of places is its zeros and its ones
+--     count-same         of an x and the entries behind it
+--     count-none         of entries that are all another
 --     absent-means       an entry is counted 0 times exactly when it stands at no place
 -- Assumes nothing.
 use mathlib.Core.Path.{_≡_, refl, sym, ap, _∙_}
@@ -58,7 +60,7 @@ module _ (x : ℕ) where
   abbrev Other : ℕ → Type 0
   Other y = y ≡ x → ⊥
 
-  count-same : (y : ℕ) (p : List ℕ) → y ≡ x → count x (y ∷ p) ≡ suc (count x p)
+  pub count-same : (y : ℕ) (p : List ℕ) → y ≡ x → count x (y ∷ p) ≡ suc (count x p)
   unfolding count
   count-same y p e = rw (eq-eqb y x e)
 
@@ -71,9 +73,9 @@ module _ (x : ℕ) where
   others (y ∷ p) h =
       elim (ℕ-discrete y x) [ yes e ↦ absurd (omega (arith, count-same y p e)) | no g ↦ (g, others p (sym (count-other y p g) ∙ h)) ]
 
-  none : (p : List ℕ) → All Other p → count x p ≡ 0
-  none [] h = unfold count in refl
-  none (y ∷ p) h = count-other y p (h .0) ∙ none p (h .1)
+  pub count-none : (p : List ℕ) → All Other p → count x p ≡ 0
+  count-none [] h = unfold count in refl
+  count-none (y ∷ p) h = count-other y p (h .0) ∙ count-none p (h .1)
 
   pub absent-means : (p : List ℕ) → (count x p ≡ 0) ↔ ((i : ℕ) → i < length p → getD p i 0 ≡ x → ⊥)
-  absent-means p = (λ h. all-at Other p (others p h), λ h. none p (all-of Other p h))
+  absent-means p = (λ h. all-at Other p (others p h), λ h. count-none p (all-of Other p h))

@@ -1,7 +1,14 @@
 -- Numbers in the natural order: the number is the position.
+--     fewer-none, fewer-step, fewer-all      the trees with fewer nodes on the left than 0, than one more, than m + 1
+--     fewer-rises                no fewer trees for more nodes
+--     HasLeft                    shape k has l nodes on the left
+--     left-nodes, left-nodes-only      what is worked out from k is such an l, and the only one
+--     left-below, right-below    the numbers of the two parts are below their counts
+--     node-size, node-number     a node's size and number, by its parts
 --     natural-number-below       the number is below C(n)
 --     natural-tree-size, natural-number-tree      the tree worked out from a number has the size, and has that number
 --     natural-tree-number        a tree is what is worked out from its number
+--     natural-tree-node          the parts of a tree worked out are worked out from what the trees with fewer nodes on the left leave of its number
 --     natural-number-rises       the number follows the natural order
 --     natural-lawful             all of it for the tree permutations of one size
 -- Assumes nothing.
@@ -27,26 +34,26 @@ use Rattle.shape.proofs.Orders.{natural-size, natural-permutation, perm
 
 -- ---- the shapes before those with l nodes on the left
 
-fewer-step : (m l : ℕ) → fewerLeft m (suc l) ≡ fewerLeft m l + C l * C (m - l)
+pub fewer-step : (m l : ℕ) → fewerLeft m (suc l) ≡ fewerLeft m l + C l * C (m - l)
 unfolding fewerLeft
 fewer-step m l = sum-last l (λ j. C j * C (m - j))
 
-fewer-rises : (m : ℕ) {l l′ : ℕ} → l ≤ l′ → fewerLeft m l ≤ fewerLeft m l′
+pub fewer-rises : (m : ℕ) {l l′ : ℕ} → l ≤ l′ → fewerLeft m l ≤ fewerLeft m l′
 unfolding fewerLeft
 fewer-rises m h = sum-rises (λ j. C j * C (m - j)) h
 
-fewer-none : (m : ℕ) → fewerLeft m 0 ≡ 0
+pub fewer-none : (m : ℕ) → fewerLeft m 0 ≡ 0
 unfolding fewerLeft sum
 fewer-none m = refl
 
-fewer-all : (m : ℕ) → fewerLeft m (suc m) ≡ C (suc m)
+pub fewer-all : (m : ℕ) → fewerLeft m (suc m) ≡ C (suc m)
 unfolding fewerLeft
 fewer-all m = sym (segner m)
 
 -- shape k of m + 1 nodes has l of them on the left
-record HasLeft (m k l : ℕ) : Type 0 where
-  from : fewerLeft m l ≤ k
-  to : k < fewerLeft m (suc l)
+pub record HasLeft (m k l : ℕ) : Type 0 where
+  pub from : fewerLeft m l ≤ k
+  pub to : k < fewerLeft m (suc l)
 
 has-left-unique : (m k l l′ : ℕ) → HasLeft m k l → HasLeft m k l′ → l ≡ l′
 has-left-unique m k l l′ h h′ = le-antisymm (lower l l′ h h′) (lower l′ l h′ h)
@@ -58,7 +65,7 @@ has-left-unique m k l l′ h h′ = le-antisymm (lower l l′ h h′) (lower l�
           | no a ↦ absurd (omega (arith, fewer-rises m {l = suc l′} {l′ = l} (omega arith), h .from, h′ .to))
         ]
 
-left-nodes : (i m k : ℕ) → k < fewerLeft m (suc i) → HasLeft m k (leftNodes i m k) × (leftNodes i m k ≤ i)
+pub left-nodes : (i m k : ℕ) → k < fewerLeft m (suc i) → HasLeft m k (leftNodes i m k) × (leftNodes i m k ≤ i)
 unfolding leftNodes
 left-nodes zero m k h = (record { from = omega (arith, fewer-none m); to = h }, omega arith)
 left-nodes (suc i) m k h = decide (decLe (fewerLeft m (suc i)) k) (left-nodes i m k)
@@ -70,13 +77,18 @@ left-nodes (suc i) m k h = decide (decLe (fewerLeft m (suc i)) k) (left-nodes i 
         let r = rest (omega arith) in
         rw (lt-leb (fewerLeft m (suc i)) k (omega arith)) (r .0, omega (arith, r .1))
 
+pub left-nodes-only : (m k l : ℕ) → HasLeft m k l → l ≤ m → leftNodes m m k ≡ l
+left-nodes-only m k l h most =
+    let found = left-nodes m m k (omega (arith, h .to, fewer-rises m {l = suc l} {l′ = suc m} (omega arith))) in
+    has-left-unique m k (leftNodes m m k) l (found .0) h
+
 -- ---- numbers of trees
 
-node-size : (l r : Tree) → size (node l r) ≡ suc (size l + size r)
+pub node-size : (l r : Tree) → size (node l r) ≡ suc (size l + size r)
 unfolding size
 node-size l r = refl
 
-node-number : (l r : Tree) → naturalNumber (node l r) ≡ fewerLeft (size l + size r) (size l) + (naturalNumber l * C (size r) + naturalNumber r)
+pub node-number : (l r : Tree) → naturalNumber (node l r) ≡ fewerLeft (size l + size r) (size l) + (naturalNumber l * C (size r) + naturalNumber r)
 unfolding naturalNumber
 node-number l r = omega arith
 
@@ -108,10 +120,10 @@ empty-numbered n k e h = (sym e, let one : C 0 ≡ 1 = unfold C in refl in omega
 
 -- the parts' numbers are the two digits of what is left of k, to the base of the right part's count
 module _ (m k l : ℕ) (h : HasLeft m k l) (most : l ≤ m) where
-  left-below : (k - fewerLeft m l) / C (m - l) < C l
+  pub left-below : (k - fewerLeft m l) / C (m - l) < C l
   left-below = div-lt-iff-lt-mul (C-positive (m - l)) .1 (omega (arith, h .from, h .to, fewer-step m l))
 
-  right-below : (k - fewerLeft m l) % C (m - l) < C (m - l)
+  pub right-below : (k - fewerLeft m l) % C (m - l) < C (m - l)
   right-below = mod-lt (k - fewerLeft m l) (C-positive (m - l))
 
   node-numbered : (x y : Tree) → HasNumber l ((k - fewerLeft m l) / C (m - l)) x → HasNumber (m - l) ((k - fewerLeft m l) % C (m - l)) y
@@ -133,13 +145,15 @@ tree-numbered (suc d) (suc m) k h b =
     (tree-numbered d l _ (omega (arith, found .1)) (left-below m k l (found .0) (found .1)))
     (tree-numbered d (m - l) _ (omega arith) (right-below m k l (found .0) (found .1)))
 
-pub natural-tree-size : (n k : ℕ) → k < C n → size (naturalTree n k) ≡ n
+natural-numbered : (n k : ℕ) → k < C n → HasNumber n k (naturalTree n k)
 unfolding naturalTree
-natural-tree-size n k h = tree-numbered n n k (le-refl n) h .0
+natural-numbered n k h = tree-numbered n n k (le-refl n) h
+
+pub natural-tree-size : (n k : ℕ) → k < C n → size (naturalTree n k) ≡ n
+natural-tree-size n k h = natural-numbered n k h .0
 
 pub natural-number-tree : (n k : ℕ) → k < C n → naturalNumber (naturalTree n k) ≡ k
-unfolding naturalTree
-natural-number-tree n k h = tree-numbered n n k (le-refl n) h .1
+natural-number-tree n k h = natural-numbered n k h .1
 
 -- a tree's number leads back to it
 numberedNode : ℕ → ℕ → ℕ → ℕ → Tree
@@ -148,9 +162,7 @@ numberedNode d m k l =
 
 tree-node : (d m k l : ℕ) → HasLeft m k l → l ≤ m → numberedTree (suc d) (suc m) k ≡ numberedNode d m k l
 unfolding numberedTree numberedNode
-tree-node d m k l h most =
-    let found = left-nodes m m k (omega (arith, h .to, fewer-rises m {l = suc l} {l′ = suc m} (omega arith))) in
-    ap (numberedNode d m k) (has-left-unique m k (leftNodes m m k) l (found .0) h)
+tree-node d m k l h most = ap (numberedNode d m k) (left-nodes-only m k l h most)
 
 parts-again : (d : ℕ) (l r : Tree) → numberedTree d (size l) (naturalNumber l) ≡ l → numberedTree d (size r) (naturalNumber r) ≡ r
     → numberedNode d (size l + size r) (naturalNumber (node l r)) (size l) ≡ node l r
@@ -180,6 +192,14 @@ tree-again (node l r) (suc d) h =
 pub natural-tree-number : (t : Tree) → naturalTree (size t) (naturalNumber t) ≡ t
 unfolding naturalTree
 natural-tree-number t = tree-again t (size t) (le-refl (size t))
+
+pub natural-tree-node : (m k l : ℕ) → HasLeft m k l → l ≤ m
+    → naturalTree (suc m) k ≡ node (naturalTree l ((k - fewerLeft m l) / C (m - l))) (naturalTree (m - l) ((k - fewerLeft m l) % C (m - l)))
+natural-tree-node m k l h most =
+    let left = natural-numbered l ((k - fewerLeft m l) / C (m - l)) (left-below m k l h most) in
+    let right = natural-numbered (m - l) ((k - fewerLeft m l) % C (m - l)) (right-below m k l h most) in
+    let whole = node-numbered m k l h most _ _ left right in
+    sym (ap₂ naturalTree (whole .0) (whole .1)) ∙ natural-tree-number _
 
 -- ---- order
 

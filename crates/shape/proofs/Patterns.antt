@@ -5,6 +5,7 @@
 --     feasible-length      so it has 2n places
 --     pattern-node         a node's pattern, and what follows it, part after part
 --     pattern-formed       a tree's pattern is feasible
+--     forest-last          its places complete that tree alone
 --     pattern-read         the tree is read back from its pattern
 --     pattern-of           a feasible pattern is the pattern of the tree read from it
 --     length-pattern       2n places
@@ -131,7 +132,7 @@ forest-tree (node l r) w =
     ap forest (pattern-node l r (0 ∷ w))
     ∙ ap joined (forest-tree l (pattern r ++ 0 ∷ w) ∙ ap {B = List Tree} (λ ts. l ∷ ts) (forest-tree r w))
 
-forest-last : (t : Tree) → forest (pattern t) ≡ t ∷ []
+pub forest-last : (t : Tree) → forest (pattern t) ≡ t ∷ []
 unfolding forest pattern
 forest-last empty = refl
 forest-last (node l r) = ap joined (forest-tree l (pattern r) ∙ ap {B = List Tree} (λ ts. l ∷ ts) (forest-last r))

@@ -1,12 +1,15 @@
 -- The tree permutations are the permutations of trees, and each is of one tree only.
 --     length-permutation     as many entries as nodes
+--     entries-above, entries-below      the labels lie after the base, and no further than there are nodes
+--     permutation-node       a node's permutation, and what follows it, part after part
 --     permutation-formed     the permutation of a tree is a tree permutation of its size
---     permutation-read       and its tree is that tree
+--     part-tree              its tree is that tree, whatever number its labels come after
+--     permutation-read       so it is where they come after 0
 --     permutation-of         a tree permutation of size n is the permutation of its tree, which has n nodes
 --     permutations-faithful  all of it together: tree permutations are one to one with trees
 -- Assumes nothing.
 use mathlib.Core.Path.{_≡_, refl, sym, ap, _∙_}
-use mathlib.Core.List.{List, [], _∷_, _++_, append-nil}
+use mathlib.Core.List.{List, [], _∷_, _++_, append-assoc, append-nil}
 use Prim.Native.Nat.{ℕ, zero, suc, _+_, _≤_, _<_}
 use native.Mathlib.Nat.{zero-add}
 use native.Mathlib.Omega.{arith}
@@ -155,12 +158,26 @@ unfolding permutationFrom size
 length-permutation b empty = refl
 length-permutation b (node l r) = rw length-append (omega (arith, length-permutation b l, length-permutation (suc (b + size l)) r))
 
+-- a node's permutation, and what follows it, part after part
+pub permutation-node : (b : ℕ) (l r : Tree) (e : List ℕ)
+    → permutationFrom b (node l r) ++ e ≡ suc (b + size l) ∷ (permutationFrom b l ++ (permutationFrom (suc (b + size l)) r ++ e))
+unfolding permutationFrom
+permutation-node b l r e =
+    let x = suc (b + size l) in
+    ap {B = List ℕ} (λ v. x ∷ v) (append-assoc (permutationFrom b l) (permutationFrom x r) e)
+
 labels-permutation : (b hi : ℕ) (t : Tree) → suc (b + size t) ≡ hi → Labels b hi (permutationFrom b t)
 unfolding permutationFrom size
 labels-permutation b hi empty e = record { between = tt; differ = tt; avoid = tt }
 labels-permutation b hi (node l r) e =
     let x = suc (b + size l) in
     labels-node b hi x _ _ (omega arith, omega arith) (labels-permutation b x l refl) (labels-permutation x hi r (omega arith))
+
+pub entries-above : (b : ℕ) (t : Tree) → All (λ x. b < x) (permutationFrom b t)
+entries-above b t = labels-above (labels-permutation b (suc (b + size t)) t refl)
+
+pub entries-below : (b : ℕ) (t : Tree) → All (λ x. x < suc (b + size t)) (permutationFrom b t)
+entries-below b t = labels-below (labels-permutation b (suc (b + size t)) t refl)
 
 cut-permutation : (d b : ℕ) (t : Tree) → size t ≤ d → cutTree d (permutationFrom b t) ≡ t
 unfolding permutationFrom size
@@ -169,9 +186,11 @@ cut-permutation zero b (node l r) h = absurd (omega arith)
 cut-permutation (suc d) b empty h = unfold cutTree in refl
 cut-permutation (suc d) b (node l r) h =
     let x = suc (b + size l) in
-    let low = labels-below (labels-permutation b x l refl) in
-    let high = labels-above (labels-permutation x _ r refl) in
-    rw (cut-node x _ _ low high d, cut-permutation d b l (omega arith), cut-permutation d x r (omega arith))
+    rw (cut-node x _ _ (entries-below b l) (entries-above x r) d, cut-permutation d b l (omega arith), cut-permutation d x r (omega arith))
+
+pub part-tree : (b : ℕ) (t : Tree) → permutationTree (permutationFrom b t) ≡ t
+unfolding permutationTree
+part-tree b t = cut-permutation (length (permutationFrom b t)) b t (omega (arith, length-permutation b t))
 
 -- ---- from the list
 
@@ -241,8 +260,8 @@ permutation-formed t =
     }
 
 pub permutation-read : (t : Tree) → permutationTree (permutation t) ≡ t
-unfolding permutation permutationTree
-permutation-read t = cut-permutation (length (permutationFrom 0 t)) 0 t (omega (arith, length-permutation 0 t))
+unfolding permutation
+permutation-read t = part-tree 0 t
 
 labels-formed : {n : ℕ} {p : List ℕ} → TreePermutation n p → Labels 0 (suc n) p
 labels-formed {p = p} f =

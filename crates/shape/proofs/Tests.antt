@@ -2,6 +2,7 @@
 --     le-means, less-means, equal-means      the tests of two numbers
 --     and-means, fails-means, every-means    two tests, a test that is to fail, a test at every number
 --     every-at, every-all, every-fails       what passes throughout passes at each number, the other way, and a number at which it fails
+--     entry-means, triple-means              what is tested of an entry of a permutation
 --     patterns-tested, permutations-tested
 -- Assumes nothing.
 use mathlib.Core.Path.{_≡_, refl, sym, _∙_, subst}
@@ -111,21 +112,20 @@ unseen-means p k l =
       λ h i m e. h i (omega arith) (sym (getD-take k p i 0 (omega arith)) ∙ e),
     ))
 
-entries-mean : (n : ℕ) (p : List ℕ) → (every (length p) (entryFits n p) ≡ true)
-    ↔ ((k : ℕ) → k < length p → ((1 ≤ getD p k 0) × (getD p k 0 ≤ n)) × ((i : ℕ) → i < k → getD p i 0 ≡ getD p k 0 → ⊥))
-entries-mean n p =
-    every-means (length p) (λ k l. and-means (and-means (le-means 1 (getD p k 0)) (le-means (getD p k 0) n)) (unseen-means p k l))
+pub entry-means : (n : ℕ) (p : List ℕ) (k : ℕ) → k < length p → (entryFits n p k ≡ true)
+    ↔ (((1 ≤ getD p k 0) × (getD p k 0 ≤ n)) × ((i : ℕ) → i < k → getD p i 0 ≡ getD p k 0 → ⊥))
+entry-means n p k l = and-means (and-means (le-means 1 (getD p k 0)) (le-means (getD p k 0) n)) (unseen-means p k l)
 
-triples-mean : (n : ℕ) (p : List ℕ) → (every (length p) (tripleFits n p) ≡ true)
-    ↔ ((k : ℕ) → k < length p → (j : ℕ) → j < k → (i : ℕ) → i < j → (getD p k 0 < getD p i 0) × (getD p i 0 < getD p j 0) → ⊥)
-triples-mean n p =
-    every-means (length p) (λ k l. every-means k (λ j m. every-means j (λ i o.
-    fails-means (and-means (less-means (getD p k 0) (getD p i 0)) (less-means (getD p i 0) (getD p j 0))))))
+pub triple-means : (n : ℕ) (p : List ℕ) (k : ℕ) → (tripleFits n p k ≡ true)
+    ↔ ((j : ℕ) → j < k → (i : ℕ) → i < j → (getD p k 0 < getD p i 0) × (getD p i 0 < getD p j 0) → ⊥)
+triple-means n p k =
+    every-means k (λ j m. every-means j (λ i o.
+    fails-means (and-means (less-means (getD p k 0) (getD p i 0)) (less-means (getD p i 0) (getD p j 0)))))
 
 pub permutations-tested : Tested permutations
 permutations-tested n p = (
-  λ h. let fits = entries-mean n p .0 (h .entries) in
-      let avoids = triples-mean n p .0 (h .shape) in
+  λ h. let fits = every-means (length p) (entry-means n p) .0 (h .entries) in
+      let avoids = every-means (length p) (λ k l. triple-means n p k) .0 (h .shape) in
       record {
         entries = h .long;
         least = λ i l. fits i l .0 .0;
@@ -135,7 +135,7 @@ permutations-tested n p = (
       },
   λ f. record {
     long = f .entries;
-    entries = entries-mean n p .1 (λ k l. ((f .least k l, f .most k l), λ i m. f .distinct i k m l));
-    shape = triples-mean n p .1 (λ k o j m i l (low, high). f .avoids i j k l m o low high);
+    entries = every-means (length p) (entry-means n p) .1 (λ k l. ((f .least k l, f .most k l), λ i m. f .distinct i k m l));
+    shape = every-means (length p) (λ k l. triple-means n p k) .1 (λ k o j m i l (low, high). f .avoids i j k l m o low high);
   },
 )
