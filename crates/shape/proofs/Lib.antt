@@ -17,9 +17,11 @@ pub mod Prefixes
 pub mod Excess
 pub mod Meanings
 pub mod HandChecked
+pub mod Trap
 pub mod Replies
 pub mod Checks
 pub mod Searches
 pub mod Answers
 pub mod Returns
+pub mod Conversions
 pub mod Determined
