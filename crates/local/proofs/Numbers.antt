@@ -28,11 +28,10 @@ use Rattle.catalan.proofs.Counting.{words-one, ways-words, ways-none, ways-step
 use Rattle.catalan.proofs.Rows.{row-at}
 use Rattle.shape.specs.Form.{count, Feasible}
 use Rattle.shape.specs.Number.{localNumber, localPlaces, localPattern}
-use Rattle.shape.proofs.Backwards.{from-before}
+use Rattle.shape.proofs.Writing.{written-next, from-before}
 use Rattle.shape.proofs.Counts.{count-split}
 use Rattle.shape.proofs.Patterns.{Word, done, zero-next, one-next, word-length, feasible-word, feasible-length}
 use Rattle.shape.proofs.LocalNumbers.{next-zero, next-one, local-lawful}
-use Rattle.local.proofs.Places.{place-written}
 
 -- ---- the number of places
 
@@ -182,7 +181,7 @@ module _ (n k : ℕ) (p : List ℕ) (i r a b : ℕ) (m : Placing n k p i r a b) 
     placed : (x : ℕ) (v : List ℕ) → localPlaces (suc (2 * n - (i + 1))) a (b + 1) r ≡ x ∷ v → take (i + 1) (set p i x) ++ v ≡ localPattern n k
     placed x v e =
         let here : suc (2 * n - (i + 1)) ≡ 2 * n - i = omega (arith, m .left) in
-        place-written p i x v (omega (arith, m .left, m .long)) ∙ rw (sym e, here) (m .places)
+        written-next p i x v (omega (arith, m .left, m .long)) ∙ rw (sym e, here) (m .places)
 
     module _ (h : r < getD row a 0) where
       enough : a ≤ b

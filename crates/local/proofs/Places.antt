@@ -1,25 +1,21 @@
 -- Laws of writing places, one after the other.
---     place-written     up to a place that is written stand the places before it, and then what was written
 --     put-turn          of the places still to be written one is written: what comes out in the end stays the same
 --     put-end           none is still to be written: that is what stands there
 -- Assumes nothing.
 use mathlib.Core.Path.{_≡_, sym, ap, _∙_}
-use mathlib.Core.List.{List, _∷_, _++_}
+use mathlib.Core.List.{List, _++_}
 use Prim.Native.Nat.{ℕ, suc, _+_, _-_, _≤_, _<_}
 use native.Mathlib.Nat.{sub-self}
-use native.Mathlib.Numerals.{add-one}
 use native.Mathlib.Omega.{arith}
 use lib.ListN.{length, set, take, drop, replicate, take-append-drop}
-use lib.Seq.{take-suc-set, drop-set-lt, append-snoc}
-
-pub place-written : (p : List ℕ) (i x : ℕ) (s : List ℕ) → i < length p → take (i + 1) (set p i x) ++ s ≡ take i p ++ x ∷ s
-place-written p i x s h = rw (add-one, take-suc-set p i x h) (append-snoc (take i p) x s)
+use lib.Seq.{drop-set-lt}
+use Rattle.shape.proofs.Writing.{written-next}
 
 module _ (p q : List ℕ) (x i to : ℕ) (kept : take i p ++ (replicate (to - i) x ++ drop to p) ≡ q) where
   pub put-turn : (n : ℕ) → i < to → length p ≡ n → to ≤ n → take (i + 1) (set p i x) ++ (replicate (to - (i + 1)) x ++ drop to (set p i x)) ≡ q
   put-turn n on long within =
       let more : suc (to - (i + 1)) ≡ to - i = omega arith in
-      place-written p i x _ (omega arith)
+      written-next p i x _ (omega arith)
       ∙ rw (drop-set-lt to p i x on) (ap (λ (k : ℕ). take i p ++ (replicate k x ++ drop to p)) more)
       ∙ kept
 

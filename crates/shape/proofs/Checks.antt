@@ -118,10 +118,12 @@ module _ (F : Form) (n : ℕ) (p : List ℕ) where
   abbrev shape : Bool
   shape = every (length p) (F .shapeTest n p)
 
-  -- what comes after them
-  pub room-after : {Q : Type 0} (next a : Outcome) → Refuses (λ m. 3 ≤ m) a → (next ≡ a) ↔ Q → (andThen (roomFor F n p) next ≡ a) ↔ (Sized n × Long × Q)
+  -- what comes after the tests of the size and of the length
+  pub room-after : {Q : Type 0} (next a : Outcome) → Refuses (λ m. 3 ≤ m) a → (next ≡ a) ↔ Q
+      → (andThen (roomFor F n p) next ≡ a) ↔ (Sized n × Long × Q)
   room-after next a h e =
-      Iff·trans (then-second 3 (roomFor F n p) next a (room-most F n (length p) (λ m. m < 3) (omega arith) (omega arith)) h (room-done F n (length p)) e) (
+      let lower = room-most F n (length p) (λ m. m < 3) (omega arith) (omega arith) in
+      Iff·trans (then-second 3 (roomFor F n p) next a lower h (room-done F n (length p)) e) (
         λ ((s, l), q). (s, l, q),
         λ (s, l, q). ((s, l), q),
       )
@@ -152,19 +154,22 @@ module _ (F : Form) (n : ℕ) (p : List ℕ) where
   pub checked-size : (checked F n p ≡ Refused Size) ↔ (Sized n → ⊥)
   unfolding checked
   checked-size =
-      Iff·trans (then-first (roomFor F n p) (contents F n p) Size (refuses-contents (λ m. 1 < m) (omega arith) (omega arith))) (room-size F n (length p))
+      Iff·trans (then-first (roomFor F n p) (contents F n p) Size (refuses-contents (λ m. 1 < m) (omega arith) (omega arith)))
+      (room-size F n (length p))
 
   pub checked-length : (checked F n p ≡ Refused Length) ↔ (Sized n × (length p ≡ F .lengthOf n → ⊥))
   unfolding checked
   checked-length =
-      Iff·trans (then-first (roomFor F n p) (contents F n p) Length (refuses-contents (λ m. 2 < m) (omega arith) (omega arith))) (room-length F n (length p))
+      Iff·trans (then-first (roomFor F n p) (contents F n p) Length (refuses-contents (λ m. 2 < m) (omega arith) (omega arith)))
+      (room-length F n (length p))
 
   -- refusals 1 to 4 only
   checked-most : Refuses (λ m. m < 5) (checked F n p)
   unfolding checked
   checked-most =
       let P : ℕ → Type 0 = λ m. m < 5 in
-      refuses-then P (roomFor F n p) (contents F n p) (room-most F n (length p) P (omega arith) (omega arith)) (refuses-contents P (omega arith) (omega arith))
+      refuses-then P (roomFor F n p) (contents F n p) (room-most F n (length p) P (omega arith) (omega arith))
+      (refuses-contents P (omega arith) (omega arith))
 
 module _ (F : Form) (tested : Tested F) (n : ℕ) (p : List ℕ) where
   pub checked-shape : (checked F n p ≡ Refused Shape)

@@ -1,6 +1,6 @@
 pub mod Examples
 pub mod Lists
-pub mod Backwards
+pub mod Writing
 pub mod Counts
 pub mod Patterns
 pub mod Permutations
