@@ -1,0 +1,12 @@
+pub mod Parts
+pub mod Counts
+pub mod Numbers
+pub mod Shapes
+pub mod Trees
+pub mod Ends
+pub mod Nodes
+pub mod Moves
+pub mod Suffix
+pub mod Examples
+pub mod Labels
+pub mod Zeros
