@@ -1,0 +1,5 @@
+pub mod Labels
+pub mod Entries
+pub mod Searches
+pub mod Answers
+pub mod Determined
