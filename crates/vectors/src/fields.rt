@@ -1,4 +1,4 @@
-// A line's fields, with single spaces between them, and what they stand for: words, numbers, and places.
+// A line's fields, with single spaces between them, and what they stand for: words, numbers, places, and entries.
 ghost use Prim.Native.Nat.{_≤_};
 ghost use lib.ListN.{length};
 ghost use Rattle.io.specs.Counts.{Counts};
@@ -56,7 +56,10 @@ pub fn end_of(text: &[u8], start: usize, letter: u8) -> usize
 
 // The k-th field as a decimal number; the largest there is where it is larger than that.
 pub fn number(line: &[u8], k: usize) -> u64 {
-    let text = field(line, k);
+    digits(field(line, k))
+}
+
+fn digits(text: &[u8]) -> u64 {
     let mut value = 0;
     let mut i = 0;
     while i < text.len() {
@@ -96,4 +99,34 @@ fn place(letter: u8) -> u8 {
         return 255;
     }
     letter - b'0'
+}
+
+// The entries that a text shows, decimals with commas between them, and none at all by -. Answers how many there was room for.
+pub fn read_entries(text: &[u8], entries: &mut [u16]) -> usize
+    ensures { λ r. ⌜ Counts r (now (entries .exit)) ⌝ }
+{
+    if check::same(text, b"-") {
+        return 0;
+    }
+    let mut start = 0;
+    let mut k = 0;
+    while start <= text.len() {
+        if k >= entries.len() {
+            return k;
+        }
+        let end = end_of(text, start, b',');
+        entries[k] = entry(&text[start..end]);
+        start = end + 1;
+        k += 1;
+    }
+    k
+}
+
+// The largest there is where the number is larger than that.
+fn entry(text: &[u8]) -> u16 {
+    let value = digits(text);
+    if value > 65535 {
+        return 65535;
+    }
+    value as u16
 }

@@ -1,5 +1,7 @@
 // What is printed of a case: one answer after the other, each after a space and its label. An answer that is not the expected one is
 // followed by WRONG and what was expected.
+ghost use Prim.Native.Nat.{_≤_};
+ghost use lib.ListN.{length};
 ghost use Rattle.io.specs.Counts.{Counts};
 use crate::fields::field;
 use libc::STDOUT_FILENO;
@@ -26,8 +28,15 @@ pub const ON: usize = 7;
 
 pub const BACK: usize = 8;
 
+pub const TO_PATTERN: usize = 9;
+
+pub const TO_PERMUTATION: usize = 10;
+
 pub fn name(label: usize) {
-    word(field(b"check number depth head later shape is on back", label));
+    word(field(
+        b"check number depth head later shape is on back to_pattern to_permutation",
+        label,
+    ));
 }
 
 pub fn word(text: &[u8]) {
@@ -48,9 +57,20 @@ pub fn end_line() {
 pub fn holds(label: usize, got: &[u8], expected: &[u8]) {
     let mut text = [0u8; 72];
     let count = spell(got, &mut text);
+    shows(label, &text[..count], expected);
+}
+
+// Expects the entries that the text shows.
+pub fn holds_entries(label: usize, got: &[u16], expected: &[u8]) {
+    let mut text = [0u8; 216];
+    let count = spell_entries(got, &mut text);
+    shows(label, &text[..count], expected);
+}
+
+fn shows(label: usize, text: &[u8], expected: &[u8]) {
     name(label);
-    word(&text[..count]);
-    if !check::same(&text[..count], expected) {
+    word(text);
+    if !check::same(text, expected) {
         word(b"WRONG, expected");
         word(expected);
     }
@@ -59,12 +79,8 @@ pub fn holds(label: usize, got: &[u8], expected: &[u8]) {
 fn spell(places: &[u8], text: &mut [u8]) -> usize
     ensures { λ r. ⌜ Counts r (now (text .exit)) ⌝ }
 {
-    if text.len() == 0 {
-        return 0;
-    }
     if places.len() == 0 {
-        text[0] = b'-';
-        return 1;
+        return put(text, 0, b"-");
     }
     let mut i = 0;
     while i < places.len() {
@@ -86,6 +102,49 @@ fn letter(place: u8) -> u8 {
         return b'x';
     }
     b'?'
+}
+
+fn spell_entries(entries: &[u16], text: &mut [u8]) -> usize
+    ensures { λ r. ⌜ Counts r (now (text .exit)) ⌝ }
+{
+    if entries.len() == 0 {
+        return put(text, 0, b"-");
+    }
+    let mut at = put_decimal(text, 0, entries[0]);
+    let mut k = 1;
+    while k < entries.len() {
+        at = put(text, at, b",");
+        at = put_decimal(text, at, entries[k]);
+        k += 1;
+    }
+    at
+}
+
+fn put_decimal(text: &mut [u8], at: usize, entry: u16) -> usize
+    requires { ⌜ at ≤ length (now text) ⌝ }
+    ensures { λ r. ⌜ Counts r (now (text .exit)) ⌝ }
+{
+    let mut digits = [0u8; 20];
+    let count = io::decimal(entry as u64, &mut digits);
+    put(text, at, &digits[..count])
+}
+
+// The letters, from place `at` of the text on, as many as there is room for. Answers how many the text has then.
+fn put(text: &mut [u8], at: usize, letters: &[u8]) -> usize
+    requires { ⌜ at ≤ length (now text) ⌝ }
+    ensures { λ r. ⌜ Counts r (now (text .exit)) ⌝ }
+{
+    let mut end = at;
+    let mut i = 0;
+    while i < letters.len() {
+        if end >= text.len() {
+            return end;
+        }
+        text[end] = letters[i];
+        end += 1;
+        i += 1;
+    }
+    end
 }
 
 // Expects that refusal, or where that is 0, that number.

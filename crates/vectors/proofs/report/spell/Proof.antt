@@ -2,7 +2,7 @@
 -- Assumes nothing.
 use mathlib.Core.Path.{_≡_}
 use Prim.Native.Nat.{_≤_, _-_}
-use lib.ListN.{length, set, length-set}
+use lib.ListN.{length}
 use Rattle.io.proofs.Counting.{counts}
 use native.Mathlib.Omega.{arith}
 use borrow.Author.Needs.{needs}
@@ -21,25 +21,25 @@ spell-spec =
     (tie.spec
     Inv-loop
     μ-loop
-    -- returns
+    -- slice-aggregate-put
     (λ c. search needs)
-    -- slice-write-text
-    (λ c. search needs)
+    -- put-requires
+    (λ c κs. search needs)
     -- same-length
     (λ c. search needs)
-    -- returns-2
-    (λ c. counts 1 (set (c .before .before .before .before .args .text .now) 0 45) (simp length-set (omega arith)))
+    -- returns
+    (λ c. search needs)
     -- loop-holds
     (λ c. search needs)
     -- same-length-2
     (λ c. search needs)
-    -- returns-3
+    -- returns-2
     (λ c. counts _ _ (omega arith))
     -- shared-slice-read-letter
     (λ c. search needs)
     -- letter-requires
     (λ c κs. search needs)
-    -- slice-write-text-2
+    -- slice-write-text
     (λ c. search needs)
     -- add-i
     (λ c. search needs)
@@ -49,5 +49,5 @@ spell-spec =
     (λ c. search needs)
     -- same-length-3
     (λ c. search needs)
-    -- returns-4
+    -- returns-3
     (λ c. counts _ _ (omega arith)))

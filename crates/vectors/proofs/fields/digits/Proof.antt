@@ -1,25 +1,23 @@
--- `vectors::fields::number` is safe and ends.
+-- `vectors::fields::digits` is safe and ends.
 -- Assumes nothing.
 use Prim.Native.Nat.{_-_}
 use lib.ListN.{length}
 use borrow.Author.Needs.{needs}
-use Rattle.vectors.proofs.fields.number.Statement.{statement}
-use Rattle.vectors.proofs.fields.number.Tie as tie
+use Rattle.vectors.proofs.fields.digits.Statement.{statement}
+use Rattle.vectors.proofs.fields.digits.Tie as tie
 
 abbrev Inv-loop : tie.InvT-loop
-Inv-loop line k text value₀ i₀ value i = Unit
+Inv-loop text value₀ i₀ value i = Unit
 
 abbrev μ-loop : tie.MeasureT-loop
-μ-loop line k text value₀ i₀ value i = length text - i
+μ-loop text value₀ i₀ value i = length text - i
 
-pub number-spec : {M : Type 1} → statement M
-number-spec =
+pub digits-spec : {M : Type 1} → statement M
+digits-spec =
     tie.close
     (tie.spec
     Inv-loop
     μ-loop
-    -- field-requires
-    (λ c κs. search needs)
     -- loop-holds
     (λ c. search needs)
     -- shared-slice-read-place
