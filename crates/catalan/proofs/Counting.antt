@@ -7,7 +7,7 @@
 --     ways-step            a 0 or a 1 comes next: ways a b = ways a (b-1) + ways (a-1) b
 --     ways-positive        there is a way while ones are no more than zeros
 --     ways-rises-ones, ways-rises-zeros, ways-at-most, ways-fit     monotone, at most C(b), and within 64 bits
---     size-limit           C(36) fits 64 bits and C(37) does not
+--     size-limit, C-fits   C(36) fits 64 bits and C(37) does not; up to C(36) they all fit
 --     C-ways, C-words      C(n) = ways n n, the words for one tree of n nodes
 --     words-join           the words for m + k trees are those for m and then those for k: a convolution
 --     segner               C(n+1) = the sum of C(j)·C(n-j) for j ≤ n
@@ -160,12 +160,15 @@ pub size-limit : (C (largestSize + 1) < 2 ^ 64) × (2 ^ 64 ≤ C (largestSize + 
 unfolding C
 size-limit = (lit< tt, lit≤ tt)
 
+pub C-fits : (n : ℕ) → n ≤ largestSize + 1 → C n < 2 ^ 64
+C-fits n h = omega (arith, size-limit .0, C-rises n (largestSize + 1) h)
+
 -- every count that is used fits 64 bits, though the binomials need not (`binom-passes-width`)
 pub ways-fit : (a b : ℕ) → b ≤ largestSize → ways a b < 2 ^ 64
 ways-fit a b h = elim (decLe a b) [ yes l ↦ fits l | no g ↦ rw (ways-none a b (omega arith)) (lit< tt) ]
   where
     fits : a ≤ b → ways a b < 2 ^ 64
-    fits l = omega (arith, size-limit .0, ways-at-most a b l, C-rises b (largestSize + 1) (omega arith))
+    fits l = omega (arith, ways-at-most a b l, C-fits b (omega arith))
 
 -- ---- words side by side
 

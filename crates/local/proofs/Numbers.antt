@@ -24,7 +24,7 @@ use mir.Syntax.{w64}
 use mir.Val.{Fits}
 use Rattle.catalan.specs.Count.{C, ways, largestSize}
 use Rattle.catalan.specs.Table.{rowOf}
-use Rattle.catalan.proofs.Counting.{words-one, ways-words, ways-none, ways-step, ways-positive, C-ways, C-rises, size-limit}
+use Rattle.catalan.proofs.Counting.{words-one, ways-words, ways-none, ways-step, ways-positive, C-ways, C-fits}
 use Rattle.catalan.proofs.Rows.{row-at}
 use Rattle.shape.specs.Form.{count, Feasible}
 use Rattle.shape.specs.Number.{localNumber, localPlaces, localPattern}
@@ -137,7 +137,7 @@ module _ (n : ℕ) (p : List ℕ) (g : Feasible n p) (small : n ≤ largestSize)
       number-fits =
           let below = local-lawful n .number-below p g in
           record {
-            fits = omega (arith, raised, number-last (i - 1) p, below, C-rises n (largestSize + 1) (omega arith), size-limit .0);
+            fits = omega (arith, raised, number-last (i - 1) p, below, C-fits n (omega arith));
           }
 
 -- ---- places from a number

@@ -17,14 +17,14 @@ use mir.Syntax.{w64}
 use mir.Val.{Fits}
 use Rattle.catalan.specs.Count.{C, largestSize}
 use Rattle.catalan.specs.Table.{catalans}
-use Rattle.catalan.proofs.Counting.{C-rises, size-limit}
+use Rattle.catalan.proofs.Counting.{C-fits}
 use Rattle.catalan.proofs.Tables.{table-at, table-long}
 use Rattle.shape.specs.Number.{fewerLeft, leftNodes}
 use Rattle.shape.proofs.NaturalNumbers.{fewer-step, fewer-rises, fewer-none, fewer-all, left-nodes-only}
 
 -- the trees counted are some of the C(m + 1)
 fewer-below : (m l : ℕ) → l ≤ suc m → m < largestSize → fewerLeft m l < 2 ^ 64
-fewer-below m l h small = omega (arith, fewer-rises m h, fewer-all m, C-rises (suc m) (largestSize + 1) (omega arith), size-limit .0)
+fewer-below m l h small = omega (arith, fewer-rises m h, fewer-all m, C-fits (suc m) (omega arith))
 
 pub fewer-start : (m : ℕ) → 0 ≡ fewerLeft m 0
 fewer-start m = sym (fewer-none m)

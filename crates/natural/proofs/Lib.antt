@@ -1,10 +1,10 @@
+pub mod Nodes
 pub mod Parts
 pub mod Counts
 pub mod Numbers
 pub mod Shapes
 pub mod Trees
 pub mod Ends
-pub mod Nodes
 pub mod Moves
 pub mod Suffix
 pub mod Examples

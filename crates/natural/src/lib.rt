@@ -1,6 +1,6 @@
-// The work on tree permutations in the natural order. The crate stands below the calls: its functions take what has been checked. Each
-// goes by recursion on the left and the right part, which stand one after the other behind the root's label; a part has the labels after
-// its `base`.
+// The work on tree permutations in the natural order. The crate stands below the calls: its functions take what has been checked. Number,
+// shape and steps go by recursion on the left and the right part, which stand one after the other behind the root's label; a part has the
+// labels after its `base`.
 mod forms;
 mod steps;
 

@@ -1,6 +1,6 @@
 // One step along the natural order, on and back. The right part steps if it can; if not, the left part does, and the right part starts
-// anew; if neither can, the root's label changes by one, and both parts start anew. So nothing is written before the working suffix
-// (source document 004), and no number is worked out. A step answers whether there was one to take.
+// anew; if neither can, the root's label changes by one, and both parts start anew. So nothing is written before the working suffix of
+// 004, and no number is worked out. A step answers whether there was one to take.
 ghost use mathlib.Core.Path.{_≡_};
 ghost use Prim.Native.Nat.{_+_, _≤_};
 ghost use lib.ListN.{length};

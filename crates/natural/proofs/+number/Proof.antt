@@ -1,86 +1,94 @@
--- `natural::number` meets its contract. The measure is how many entries the part has.
+-- `natural::number` meets its contract. The measure is how many entries the part has. What is known where the part is not empty
+-- (`rooted`), and where the numbers of its parts are known (`whole`), is said once.
 -- Assumes nothing.
 use Prim.Native.Nat.{ℕ, _<_}
-use native.Mathlib.Nat.{le-of-lt}
+use native.Mathlib.Omega.{arith}
 use lib.ListN.{length}
 use borrow.Author.Needs.{needs}
 use borrow.Fn.Kinds.{In}
 use borrow.Fn.PlainCycle.{Measures, is, falls, and}
-use Rattle.natural.proofs.Parts.{root-above, left-part, right-part}
-use Rattle.natural.proofs.Numbers.{number-none, right-starts, right-within, right-fits, right-address-fits}
-use Rattle.natural.proofs.Numbers.{left-shorter, right-shorter, lefts-among, others-small, rights-entry}
-use Rattle.natural.proofs.Numbers.{steps-fit, left-counted-fits, number-fits, number-whole}
-use Rattle.natural.proofs.number.Reads as number
-use Rattle.natural.proofs.number.Kinds as number-kinds
-use Rattle.natural.proofs.+number.Lts-number as number-lts
-use Rattle.natural.proofs.fewer_left.Reads as fewer-left-reads
+use Rattle.natural.proofs.Parts.{Rooted, root, left-part, right-part}
+use Rattle.natural.proofs.Numbers.{number-none, Joined, joined}
+use Rattle.natural.proofs.number.Reads as reads
+use Rattle.natural.proofs.number.Kinds as kinds
+use Rattle.natural.proofs.+number.Lts-number as lts
+use Rattle.natural.proofs.fewer_left.Reads as fewer
 use Rattle.natural.proofs.+number.{statement}
 use Rattle.natural.proofs.+number.Tie.{close}
 
-ruleset cut = (needs, number-none, le-of-lt, root-above, right-starts, right-within, right-fits, right-address-fits)
-
-ruleset parts = (needs, left-part, right-part, left-shorter, right-shorter)
-
-ruleset joined = (needs, right-starts, right-within, lefts-among, others-small, rights-entry, steps-fit, left-counted-fits, number-fits, number-whole)
-
-abbrev μ-number : Measures 2 number-kinds.ps ℕ
+abbrev μ-number : Measures 2 kinds.ps ℕ
 μ-number κs a = length (a .1 .1 .0 .now)
 
-abbrev number-at : ℕ → In 2 number-kinds.ps
-number-at t = and 2 number-kinds.ps (is 2 number-kinds.ps μ-number t) number.Pre
+abbrev number-at : ℕ → In 2 kinds.ps
+number-at t = and 2 kinds.ps (is 2 kinds.ps μ-number t) reads.Pre
 
-abbrev number-below : ℕ → In 2 number-kinds.ps
-number-below t = and 2 number-kinds.ps (falls 2 number-kinds.ps _<_ μ-number t) number.Pre
+abbrev number-below : ℕ → In 2 kinds.ps
+number-below t = and 2 kinds.ps (falls 2 kinds.ps _<_ μ-number t) reads.Pre
+
+abbrev claims : ℕ → lts.Claims
+claims t = (number-below t, reads.Post, fewer.Asked, fewer.Learnt)
+
+module _ (t : ℕ) where
+  rooted : (c : lts.Else1 (claims t) (number-at t) reads.Post)
+      → (let given = c .before .before .before .args in Rooted (given .base) (given .entries .now))
+  rooted c = search needs
+
+  whole : (c : lts.After-fewer-left (claims t) (number-at t) reads.Post)
+      → (let right = c .before in
+      let left = right .before .before in
+      let given = left .before .before .before .before .before .before .args in
+      Joined (given .catalans .now) (given .base) (given .entries .now) (c .fewer-left .result) (left .number .result) (right .number2 .result))
+  whole c = search joined
 
 pub +number-spec : {M : Type 1} → statement M
 +number-spec =
-    close μ-number (λ t. number-lts.spec
-    (number-below t, number.Post, fewer-left-reads.Asked, fewer-left-reads.Learnt)
+    close μ-number (λ t. lts.spec
+    (claims t)
     (number-at t)
-    number.Post
+    reads.Post
     -- returns
-    (λ c. search cut)
+    (λ c. search number-none)
     -- shared-slice-read-root
-    (λ c. search cut)
+    (λ c. search needs)
     -- sub-right
-    (λ c. search cut)
+    (λ c. omega (arith, root (rooted t (c .before))))
     -- cast-right
-    (λ c. search cut)
+    (λ c. omega (arith, root (rooted t (c .before))))
     -- sub-number
-    (λ c. search cut)
+    (λ c. omega (arith, root (rooted t (c .before))))
     -- part-number-start
-    (λ c. search cut)
+    (λ c. omega (arith, root (rooted t (c .before))))
     -- part-number-end
-    (λ c. search cut)
+    (λ c. omega (arith, root (rooted t (c .before))))
     -- number-requires
-    (λ c κs. search parts)
+    (λ c κs. let h = rooted t (c .before .before) in (omega (arith, root h), (search needs, left-part h)))
     -- mul-number
-    (λ c. search cut)
+    (λ c. omega (arith, root (rooted t (c .before .before .before))))
     -- sub-number-2
-    (λ c. search cut)
+    (λ c. omega (arith, root (rooted t (c .before .before .before))))
     -- part-number-start-2
-    (λ c. search cut)
+    (λ c. omega (arith, root (rooted t (c .before .before .before))))
     -- part-number-end-2
-    (λ c. search cut)
+    (λ c. search needs)
     -- number-requires-2
-    (λ c κs. search parts)
+    (λ c κs. let h = rooted t (c .before .before .before .before) in (omega (arith, root h), (search needs, right-part h)))
     -- sub-fewer-left
-    (λ c. search joined)
+    (λ c. search needs)
     -- sub-fewer-left-2
-    (λ c. search joined)
+    (λ c. omega (arith, root (rooted t (c .before .before .before .before .before))))
     -- fewer-left-requires
-    (λ c κs. search joined)
+    (λ c κs. let x = root (rooted t (c .before .before .before .before .before)) in search needs)
     -- sub-result
-    (λ c. search joined)
+    (λ c. omega (arith, root (rooted t (c .before .before .before .before .before .before))))
     -- mul-result
-    (λ c. search joined)
+    (λ c. omega (arith, root (rooted t (c .before .before .before .before .before .before))))
     -- shared-slice-read-result
-    (λ c. search joined)
+    (λ c. omega (arith, whole t (c .before)))
     -- mul-result-2
-    (λ c. search joined)
+    (λ c. omega (arith, whole t (c .before)))
     -- add-result
-    (λ c. search joined)
+    (λ c. omega (arith, whole t (c .before)))
     -- add-result-2
-    (λ c. search joined)
+    (λ c. omega (arith, whole t (c .before)))
     -- returns-2
-    (λ c. search joined))
+    (λ c. whole t (c .before) .whole))

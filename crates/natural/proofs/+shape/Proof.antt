@@ -1,96 +1,101 @@
--- `natural::shape` meets its contract. The measure is how many places the part has.
+-- `natural::shape` meets its contract. The measure is how many places the part has. What is known once the left part's size is
+-- (`parts`) is said once.
 -- Assumes nothing.
 use Prim.Native.Nat.{ℕ, _<_}
-use lib.ListN.{length}
+use native.Mathlib.Omega.{arith}
+use lib.ListN.{length, length-set}
 use borrow.Author.Needs.{needs}
 use borrow.Fn.Kinds.{In}
 use borrow.Fn.PlainCycle.{Measures, is, falls, and}
-use Rattle.natural.proofs.Shapes.{shape-none, others-few, number-within, Splits, LeftDone, split-kept, left-within}
-use Rattle.natural.proofs.Shapes.{right-fits, right-address-fits, label-fits, root-fits, rights-entry, rights-some}
-use Rattle.natural.proofs.Shapes.{left-ends, left-shorter, left-small, left-number}
-use Rattle.natural.proofs.Shapes.{right-within, right-shorter, right-small, right-number, shape-kept, shape-whole}
-use Rattle.natural.proofs.shape.Reads as shape
-use Rattle.natural.proofs.shape.Kinds as shape-kinds
-use Rattle.natural.proofs.+shape.Lts-shape as shape-lts
-use Rattle.natural.proofs.left_nodes.Reads as left-nodes-reads
+use Rattle.natural.proofs.Shapes.{shape-none, number-within, Split, split, shape-whole}
+use Rattle.natural.proofs.shape.Reads as reads
+use Rattle.natural.proofs.shape.Kinds as kinds
+use Rattle.natural.proofs.+shape.Lts-shape as lts
+use Rattle.natural.proofs.left_nodes.Reads as left-nodes
 use Rattle.natural.proofs.+shape.{statement}
 use Rattle.natural.proofs.+shape.Tie.{close}
 
-ruleset split = (needs, shape-none, others-few, number-within)
-
-abbrev μ-shape : Measures 2 shape-kinds.ps ℕ
+abbrev μ-shape : Measures 2 kinds.ps ℕ
 μ-shape κs a = length (a .1 .1 .1 .0 .now)
 
-abbrev shape-at : ℕ → In 2 shape-kinds.ps
-shape-at t = and 2 shape-kinds.ps (is 2 shape-kinds.ps μ-shape t) shape.Pre
+abbrev shape-at : ℕ → In 2 kinds.ps
+shape-at t = and 2 kinds.ps (is 2 kinds.ps μ-shape t) reads.Pre
 
-abbrev shape-below : ℕ → In 2 shape-kinds.ps
-shape-below t = and 2 shape-kinds.ps (falls 2 shape-kinds.ps _<_ μ-shape t) shape.Pre
+abbrev shape-below : ℕ → In 2 kinds.ps
+shape-below t = and 2 kinds.ps (falls 2 kinds.ps _<_ μ-shape t) reads.Pre
 
-abbrev calls : ℕ → shape-lts.Claims
-calls t = (left-nodes-reads.Asked, left-nodes-reads.Learnt, shape-below t, shape.Post)
+abbrev claims : ℕ → lts.Claims
+claims t = (left-nodes.Asked, left-nodes.Learnt, shape-below t, reads.Post)
 
--- what `left_nodes` leaves
-splits : (t : ℕ) (c : shape-lts.After-left-nodes (calls t) (shape-at t) shape.Post)
-    → Splits t (c .before .before .before .before .args .catalans .now) (c .before .before .before .before .args .base)
-    (c .before .before .before .before .args .number) (c .before .before .before .before .args .entries .now)
-    (c .left-nodes .result .left) (c .left-nodes .result .rest)
-splits t c = search needs
+module _ (t : ℕ) where
+  -- what `left_nodes` leaves
+  parts : (c : lts.After-left-nodes (claims t) (shape-at t) reads.Post)
+      → (let given = c .before .before .before .before .args in
+      let found = c .left-nodes .result in
+      Split (given .catalans .now) (given .entries .now) (given .number) (found .left) (found .rest))
+  parts c = search split
 
--- what the first call of itself leaves
-left-done : (t : ℕ) (c : shape-lts.After-shape (calls t) (shape-at t) shape.Post)
-    → LeftDone (splits t (c .before .before .before .before .before .before)) (c .shape .last .1 .1 .1 .0)
-left-done t c = record { written = c .shape .ensures }
+  -- where it is needed again, with the left part written
+  abbrev asked : lts.After-struct-known4 (claims t) (shape-at t) reads.Post → lts.After-left-nodes (claims t) (shape-at t) reads.Post
+  asked c = c .before .before .before .before .before .before .before .before .before
 
 pub +shape-spec : {M : Type 1} → statement M
 +shape-spec =
-    close μ-shape (λ t. shape-lts.spec
-    (calls t)
+    close μ-shape (λ t. lts.spec
+    (claims t)
     (shape-at t)
-    shape.Post
+    reads.Post
     -- returns
-    (λ c. search split)
+    (λ c. search shape-none)
     -- sub-others
-    (λ c. search split)
+    (λ c. search needs)
     -- left-nodes-requires
-    (λ c κs. search split)
+    (λ c κs. search (needs, number-within))
     -- sub-rights
-    (λ c. left-within (splits t (c .before)))
+    (λ c. omega (arith, parts t (c .before)))
     -- mul-rights
-    (λ c. search (needs, rights-entry (splits t (c .before))))
+    (λ c. omega (arith, parts t (c .before)))
     -- shared-slice-read-rights
-    (λ c. rights-entry (splits t (c .before .before)))
+    (λ c. omega (arith, parts t (c .before .before)))
     -- add-right
-    (λ c. right-fits (splits t (c .before .before .before)))
+    (λ c. omega (arith, parts t (c .before .before .before)))
     -- cast-root
-    (λ c. label-fits (splits t (c .before .before .before)))
+    (λ c. omega (arith, parts t (c .before .before .before)))
     -- add-root
-    (λ c. root-fits (splits t (c .before .before .before)))
+    (λ c. omega (arith, parts t (c .before .before .before)))
     -- slice-write-entries
     (λ c. search needs)
     -- div-shape
-    (λ c. rights-some (splits t (c .before .before .before .before)))
+    (λ c. omega (arith, parts t (c .before .before .before .before)))
     -- sub-shape
     (λ c. search needs)
     -- part-shape-start
     (λ c. search needs)
     -- part-shape-end
-    (λ c. left-ends (splits t (c .before .before .before .before)))
+    (λ c. simp length-set (omega (arith, parts t (c .before .before .before .before))))
     -- shape-requires
-    (λ c κs. let s = splits t (c .before .before .before .before .before) in (left-shorter s, (s .filled, left-small s, left-number s)))
+    (λ c κs.
+    let s = parts t (c .before .before .before .before .before) in
+    (omega arith, (s .filled, omega arith, s .left-number _ (omega arith))))
     -- rem-shape
-    (λ c. rights-some (split-kept (left-done t (c .before .before .before))))
+    (λ c. omega (arith, parts t (asked t c)))
     -- mul-shape
-    (λ c. right-address-fits (split-kept (left-done t (c .before .before .before))))
+    (λ c. omega (arith, parts t (asked t c)))
     -- sub-shape-2
-    (λ c. right-within (left-done t (c .before .before .before)))
+    (λ c. omega (arith, parts t (asked t c), simp length-set at (c .before .before .entries .given .1)))
     -- part-shape-start-2
-    (λ c. right-within (left-done t (c .before .before .before)))
+    (λ c. omega (arith, parts t (asked t c), simp length-set at (c .before .before .entries .given .1)))
     -- part-shape-end-2
     (λ c. search needs)
     -- shape-requires-2
-    (λ c κs. let d = left-done t (c .before .before .before .before) in (right-shorter d, (split-kept d .filled, right-small d, right-number d)))
+    (λ c κs.
+    let s = parts t (asked t (c .before)) in
+    let kept = simp length-set at (c .before .before .before .entries .given .1) in
+    (omega arith, (s .filled, omega arith, s .right-number _ (omega arith))))
     -- same-length
-    (λ c. shape-kept (left-done t (c .before .before .before .before .before .before .before)) (c .before .before .shape2 .ensures))
+    (λ c. omega (arith, simp length-set at (c .before .before .before .before .before .before .entries .given .1)))
     -- returns-2
-    (λ c. shape-whole (left-done t (c .before .before .before .before .before .before .before)) (c .before .before .shape2 .ensures)))
+    (λ c.
+    let put = c .before .before in
+    let left-back = put .before .before .before .before in
+    shape-whole _ (parts t (asked t (put .before .before))) (left-back .before .shape .ensures) (put .shape2 .ensures)))

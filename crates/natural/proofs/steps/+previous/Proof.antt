@@ -3,16 +3,16 @@
 -- Assumes nothing.
 use Prim.Native.Nat.{ℕ, _<_}
 use native.Mathlib.Omega.{arith}
-use lib.ListN.{length, getD}
+use lib.ListN.{length}
 use borrow.Author.Needs.{needs}
 use borrow.Fn.Kinds.{In}
 use borrow.Fn.PlainCycle.{Measures, is, falls, and}
 use Rattle.natural.specs.Parts.{hasPrevious}
-use Rattle.natural.proofs.Parts.{right-part}
+use Rattle.natural.proofs.Parts.{Rooted, cut, root, right-part}
 use Rattle.natural.proofs.Nodes.{putLeft, putRight}
-use Rattle.natural.proofs.Moves.{previous-steps, Rooted, root, RightStays, BothStay}
+use Rattle.natural.proofs.Moves.{previous-steps, RightStays, BothStay}
 use Rattle.natural.proofs.Moves.{empty-moves, right-moves, right-stays, left-still, left-moves, left-stays}
-use Rattle.natural.proofs.Moves.{previous-first, previous-root-room, previous-root-moves}
+use Rattle.natural.proofs.Moves.{previous-first, previous-root-moves}
 use Rattle.natural.proofs.steps.previous.Reads as reads
 use Rattle.natural.proofs.steps.previous.Kinds as kinds
 use Rattle.natural.proofs.steps.+previous.Lts-previous as lts
@@ -43,7 +43,7 @@ module _ (t : ℕ) where
       let given = asked .before .before .before .before .before .args in
       let b = given .base in
       let p = given .entries .now in
-      Rooted b p × RightStays hasPrevious b p (putRight b (getD p 0 0) p (asked .previous .last .1 .0)))
+      Rooted b p × RightStays hasPrevious b p (putRight (cut b p) p (asked .previous .last .1 .0)))
   right c =
       let asked = c .before .before .before in
       let h = rooted (asked .before .before .before) in
@@ -55,8 +55,8 @@ module _ (t : ℕ) where
       let given = asked-right .before .before .before .before .before .args in
       let b = given .base in
       let p = given .entries .now in
-      let q = putRight b (getD p 0 0) p (asked-right .previous .last .1 .0) in
-      Rooted b p × BothStay hasPrevious b p (putLeft b (getD p 0 0) q (asked .previous2 .last .1 .0)))
+      let q = putRight (cut b p) p (asked-right .previous .last .1 .0) in
+      Rooted b p × BothStay hasPrevious b p (putLeft (cut b p) q (asked .previous2 .last .1 .0)))
   both c =
       let asked = c .before .before .before in
       let (h, m) = right (asked .before .before) in
@@ -86,7 +86,7 @@ pub +previous-spec : {M : Type 1} → statement M
     -- part-previous-end
     (λ c. search needs)
     -- previous-requires
-    (λ c κs. (omega (arith, root (rooted t (c .before .before))), search right-part))
+    (λ c κs. let h = rooted t (c .before .before) in (omega (arith, root h), right-part h))
     -- same-length
     (λ c. search needs)
     -- returns-2
@@ -119,7 +119,7 @@ pub +previous-spec : {M : Type 1} → statement M
     let stepped = put .before .before in
     let back = stepped .before .before in
     let (h, m) = right t (back .before .before .before) in
-    left-moves previous-steps h m (back .before .previous2 .ensures) (stepped .if3 .taken) (back .entries2 .given .1) (put .put-last .ensures))
+    left-moves previous-steps h m (back .before .previous2 .ensures) (stepped .if3 .taken) (put .put-last .ensures))
     -- same-length-3
     (λ c. search needs)
     -- returns-4
@@ -127,7 +127,7 @@ pub +previous-spec : {M : Type 1} → statement M
     -- sub-put-last-parts
     (λ c. omega (arith, root (both t (c .before) .0)))
     -- put-last-parts-requires
-    (λ c κs. let (h, m) = both t (c .before .before) in previous-root-room h m (c .before .if4 .left))
+    (λ c κs. let x = root (both t (c .before .before) .0) in search needs)
     -- same-length-4
     (λ c. search needs)
     -- returns-5
