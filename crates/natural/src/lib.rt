@@ -19,7 +19,7 @@ ghost use Rattle.shape.specs.Number.{fewerLeft, leftNodes, naturalNumber, natur
 ghost use Rattle.natural.specs.Parts.{Part};
 
 // The trees with a smaller left part come first; the left's number counts in steps of as many as there are right parts.
-pub fn number(catalans: &[u64], base: u16, entries: &[u16]) -> u64
+pub fn number(catalans: &[u64; 37], base: u16, entries: &[u16]) -> u64
     requires { ⌜ (now catalans ≡ theTable) × Part base (now entries) ⌝ }
     ensures { λ r. ⌜ r ≡ naturalNumber (permutationTree (now (entries .entry))) ⌝ }
 {
@@ -36,7 +36,7 @@ pub fn number(catalans: &[u64], base: u16, entries: &[u16]) -> u64
 }
 
 // How many trees with so many nodes besides the root have fewer than `left` of them on the left.
-fn fewer_left(catalans: &[u64], others: usize, left: usize) -> u64
+fn fewer_left(catalans: &[u64; 37], others: usize, left: usize) -> u64
     requires { ⌜ (now catalans ≡ theTable) × (left ≤ others) × (others < largestSize) ⌝ }
     ensures { λ r. ⌜ r ≡ fewerLeft others left ⌝ }
 {
@@ -56,7 +56,7 @@ struct Split {
 }
 
 // The number undone: what the trees with a smaller left part leave of it is the left's number in steps of the right parts, and the right's.
-pub fn shape(catalans: &[u64], base: u16, number: u64, entries: &mut [u16])
+pub fn shape(catalans: &[u64; 37], base: u16, number: u64, entries: &mut [u16])
     requires { ⌜ (now catalans ≡ theTable) × (base + length (now entries) ≤ largestSize) × (number < C (length (now entries))) ⌝ }
     ensures { λ _. ⌜ now (entries .exit) ≡ permutationFrom base (naturalTree (length (now (entries .entry))) number) ⌝ }
 {
@@ -74,7 +74,7 @@ pub fn shape(catalans: &[u64], base: u16, number: u64, entries: &mut [u16])
 }
 
 // The trees that have one node more on the left come after all that have as many as here.
-fn left_nodes(catalans: &[u64], others: usize, number: u64) -> Split
+fn left_nodes(catalans: &[u64; 37], others: usize, number: u64) -> Split
     requires { ⌜ (now catalans ≡ theTable) × (others < largestSize) × (number < C (others + 1)) ⌝ }
     ensures { λ r. ⌜ r .left ≡ leftNodes others others number ⌝ }
     ensures { λ r. ⌜ fewerLeft others (r .left) + r .rest ≡ number ⌝ }

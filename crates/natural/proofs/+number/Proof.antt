@@ -30,13 +30,13 @@ claims t = (number-below t, reads.Post, fewer.Asked, fewer.Learnt)
 
 module _ (t : ℕ) where
   rooted : (c : lts.Else1 (claims t) (number-at t) reads.Post)
-      → (let given = c .before .before .before .args in Rooted (given .base) (given .entries .now))
+      → (let given = c .before .before .args in Rooted (given .base) (given .entries .now))
   rooted c = search needs
 
   whole : (c : lts.After-fewer-left (claims t) (number-at t) reads.Post)
       → (let right = c .before in
       let left = right .before .before in
-      let given = left .before .before .before .before .before .before .args in
+      let given = left .before .before .before .before .before .args in
       Joined (given .catalans .now) (given .base) (given .entries .now) (c .fewer-left .result) (left .number .result) (right .number2 .result))
   whole c = search joined
 
@@ -82,8 +82,8 @@ pub +number-spec : {M : Type 1} → statement M
     (λ c. omega (arith, root (rooted t (c .before .before .before .before .before .before))))
     -- mul-result
     (λ c. omega (arith, root (rooted t (c .before .before .before .before .before .before))))
-    -- shared-slice-read-result
-    (λ c. omega (arith, whole t (c .before)))
+    -- element-copy-out-result
+    (λ c. omega (arith, whole t c))
     -- mul-result-2
     (λ c. omega (arith, whole t (c .before)))
     -- add-result

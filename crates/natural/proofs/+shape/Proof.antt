@@ -30,7 +30,7 @@ claims t = (left-nodes.Asked, left-nodes.Learnt, shape-below t, reads.Post)
 module _ (t : ℕ) where
   -- what `left_nodes` leaves
   parts : (c : lts.After-left-nodes (claims t) (shape-at t) reads.Post)
-      → (let given = c .before .before .before .before .args in
+      → (let given = c .before .before .before .args in
       let found = c .left-nodes .result in
       Split (given .catalans .now) (given .entries .now) (given .number) (found .left) (found .rest))
   parts c = search split
@@ -55,8 +55,8 @@ pub +shape-spec : {M : Type 1} → statement M
     (λ c. omega (arith, parts t (c .before)))
     -- mul-rights
     (λ c. omega (arith, parts t (c .before)))
-    -- shared-slice-read-rights
-    (λ c. omega (arith, parts t (c .before .before)))
+    -- element-copy-out-rights
+    (λ c. omega (arith, parts t (c .before)))
     -- add-right
     (λ c. omega (arith, parts t (c .before .before .before)))
     -- cast-root

@@ -26,13 +26,13 @@ fewer-left-spec =
     (λ c. search turn)
     -- mul-fewer
     (λ c. search turn)
-    -- shared-slice-read-fewer
+    -- element-copy-out-fewer
     (λ c. search turn)
     -- sub-fewer
     (λ c. search turn)
     -- mul-fewer-2
     (λ c. search turn)
-    -- shared-slice-read-fewer-2
+    -- element-copy-out-fewer-2
     (λ c. search turn)
     -- mul-fewer-3
     (λ c. search turn)

@@ -27,13 +27,13 @@ left-nodes-spec =
     (λ c. search turn)
     -- mul-trees
     (λ c. search turn)
-    -- shared-slice-read-trees
+    -- element-copy-out-trees
     (λ c. search turn)
     -- sub-trees
     (λ c. search turn)
     -- mul-trees-2
     (λ c. search turn)
-    -- shared-slice-read-trees-2
+    -- element-copy-out-trees-2
     (λ c. search turn)
     -- mul-trees-3
     (λ c. search turn)

@@ -18,8 +18,6 @@ number-spec =
     (λ c. search answers)
     -- table-requires
     (λ c κs. search answers)
-    -- slice-aggregate-number
-    (λ c. search answers)
     -- number-requires
     (λ c κs. search answers)
     -- returns

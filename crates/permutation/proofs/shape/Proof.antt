@@ -24,8 +24,6 @@ shape-spec =
     (λ c. search answers)
     -- returns
     (λ c. search answers)
-    -- slice-aggregate-shape
-    (λ c. search answers)
     -- shape-requires
     (λ c κs. search answers)
     -- returns-2
