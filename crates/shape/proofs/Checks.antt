@@ -3,7 +3,7 @@
 --     room-size, room-length, room-done  refusals 1 and 2 of a list that is only written
 --     room-after                         what a check answers after these two, 3 or above
 --     checked-size, checked-length, checked-entry, checked-shape       refusals 1 to 4 of a list that is lent to be read
---     checked-passes, checked-done       done: the size is one and the list passes all tests; the size is one and the list is well formed
+--     checked-passes, checked-done       done: the size is 1 to 35 and the list passes all tests; the size is 1 to 35 and the list is well formed
 --     done-sized, done-formed            the same, one way
 --     number-size, number-length, number-refused, number-done          refusals 1, 2 and 5 of a number that is asked for
 --     successor-lower, successor-last, successor-done                  refusals 1 to 4 as above; of what is well formed, only the last shape

@@ -72,7 +72,7 @@ impl Refusal {
     }
 }
 
-// Whether the size is one, and a slice of that length as long as the form asks.
+// Whether the size is 1 to 35, and a slice of that length as long as the form asks.
 pub fn room(form: Form, size: usize, length: usize) -> Outcome
     ensures { λ r. ⌜ r ≡ roomOf (formOf form) size length ⌝ }
 {
