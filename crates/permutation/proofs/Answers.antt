@@ -4,7 +4,7 @@
 --     size-listed, size-scaled                    the table has an entry for the size, and its place fits 64 bits
 --     table-past, table-lent, table-below, table-done      a number against that entry
 --     shape-left                                  what the shape of a number leaves
---     done-part                                   the check is done: the permutation of a tree, with the labels after 0
+--     done-permutation, done-part                 the check is done: a tree permutation, and a part with the labels after 0
 --     next-found, next-left, previous-left        then a step on and a step back: whether there is one, and what it leaves
 --     answers                                     these and the laws of any call, for `search`
 -- Assumes nothing.
@@ -82,14 +82,14 @@ module _ (n : ℕ) (p : List ℕ) (r : Outcome) (e : r ≡ roomFor permutations 
 -- ---- after the check
 
 module _ (n : ℕ) (p : List ℕ) (r : Outcome) (e : outcomeReply r ≡ checkReply permutations n p) (h : r ≡ Done) where
-  formed : TreePermutation n p
-  formed = done-formed permutations permutations-tested n p (check-told permutations n p r e Done h)
+  pub done-permutation : TreePermutation n p
+  done-permutation = done-formed permutations permutations-tested n p (check-told permutations n p r e Done h)
 
   pub done-part : Part 0 p
-  done-part = formed-part n p formed (done-small permutations n p r e h)
+  done-part = formed-part n p done-permutation (done-small permutations n p r e h)
 
   nodes : size (permutationTree p) ≡ n
-  nodes = permutation-of n p formed .1
+  nodes = permutation-of n p done-permutation .1
 
   -- its number
   abbrev k : ℕ
@@ -100,7 +100,7 @@ module _ (n : ℕ) (p : List ℕ) (r : Outcome) (e : outcomeReply r ≡ checkRep
       ≡ cond t (permutation (naturalTree n j)) p
   unfolding permutation
   written true j = ap (λ (m : ℕ). permutationFrom 0 (naturalTree m j)) nodes
-  written false j = permutation-of n p formed .0
+  written false j = permutation-of n p done-permutation .0
 
   pub next-found : (b : Bool) → b ≡ hasNext (permutationTree p) → b ≡ ltb (k + 1) (C n)
   next-found b g = g ∙ ap (λ (m : ℕ). ltb (k + 1) (C m)) nodes
