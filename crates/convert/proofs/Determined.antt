@@ -15,7 +15,7 @@ use Rattle.convert.proofs.to_pattern.Reads as to-pattern
 
 pub to-permutation-determined : Determined (Outcome × List ℕ) to-permutation.Pre to-permutation.Post (λ κ r (_, (_, (s, _))). (r, now s))
     (λ κ (n, (p, (q, _))). (
-      conversionCheck patterns permutations n (now p) (now q),
+      conversionCheck patterns (permutations .lengthOf) n (now p) (now q),
       conversionEnd patterns permutations n (now p) (now q),
     ))
 unfolding conversionReply
@@ -23,7 +23,7 @@ to-permutation-determined = determined (λ κ a. tt) (λ κ a r s. exact-both (o
 
 pub to-pattern-determined : Determined (Outcome × List ℕ) to-pattern.Pre to-pattern.Post (λ κ r (_, (_, (s, _))). (r, now s))
     (λ κ (n, (p, (q, _))). (
-      conversionCheck permutations patterns n (now p) (now q),
+      conversionCheck permutations (patterns .lengthOf) n (now p) (now q),
       conversionEnd permutations patterns n (now p) (now q),
     ))
 unfolding conversionReply

@@ -16,12 +16,12 @@ use Rattle.shape.proofs.Conversions.{conversion-back}
 
 -- p is converted into q, and that into p′, which may hold anything
 module _ (n : ℕ) (p q p′ : List ℕ) where
-  pub pattern-returns : conversionCheck patterns permutations n p q ≡ Done → length p′ ≡ 2 * n
+  pub pattern-returns : conversionCheck patterns (permutations .lengthOf) n p q ≡ Done → length p′ ≡ 2 * n
       → conversionEnd permutations patterns n (conversionEnd patterns permutations n p q) p′ ≡ p
   pattern-returns e =
       conversion-back patterns permutations n p q e permutations-faithful patterns-faithful patterns-tested permutations-tested p′
 
-  pub permutation-returns : conversionCheck permutations patterns n p q ≡ Done → length p′ ≡ n
+  pub permutation-returns : conversionCheck permutations (patterns .lengthOf) n p q ≡ Done → length p′ ≡ n
       → conversionEnd patterns permutations n (conversionEnd permutations patterns n p q) p′ ≡ p
   permutation-returns e =
       conversion-back permutations patterns n p q e patterns-faithful permutations-faithful permutations-tested patterns-tested p′

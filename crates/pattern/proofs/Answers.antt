@@ -38,13 +38,13 @@ use Rattle.shape.proofs.Answers.{answered, room-some, room-small, room-long, ch
 
 module _ (n : ℕ) (p : List ℕ) (r : Outcome) (e : r ≡ roomFor patterns n p) (h : r ≡ Done) where
   pub places-some : 1 ≤ n
-  places-some = room-some patterns n p r e h
+  places-some = room-some (patterns .lengthOf) n (length p) r e h
 
   pub places-small : n ≤ largestSize
-  places-small = room-small patterns n p r e h
+  places-small = room-small (patterns .lengthOf) n (length p) r e h
 
   pub places-long : length p ≡ 2 * n
-  places-long = room-long patterns n p r e h
+  places-long = room-long (patterns .lengthOf) n (length p) r e h
 
   pub number-below : (k v : ℕ) → v ≡ tableAt n → k < v → k < C n
   number-below k = asked-below (local n) k p r e h

@@ -43,10 +43,10 @@ use Rattle.natural.proofs.Parts.{formed-part}
 
 module _ (n : ℕ) (p : List ℕ) (r : Outcome) (e : r ≡ roomFor permutations n p) (h : r ≡ Done) where
   pub entries-small : n ≤ largestSize
-  entries-small = room-small permutations n p r e h
+  entries-small = room-small (permutations .lengthOf) n (length p) r e h
 
   pub entries-long : length p ≡ n
-  entries-long = room-long permutations n p r e h
+  entries-long = room-long (permutations .lengthOf) n (length p) r e h
 
   pub size-listed : n < 37
   size-listed = omega (arith, entries-small)

@@ -7,7 +7,7 @@
 --     step-refused, step-value            one step, which is refused exactly where its change is 0
 --     step-done, step-none                one step that only says that it was done
 --     step-left                           and what either leaves
---     pattern-asks, permutation-asks      how long a form asks a list to be
+--     pattern-asks, permutation-asks, record-asks      how long a form asks a list to be
 --     room-none, room-large, room-other, room-fits      the tests of the size and of the length
 --     room-told, room-some, room-small, room-long       and what their answer tells
 --     check-refused, check-contents       what a check says, after them
@@ -29,10 +29,10 @@ use Rattle.catalan.proofs.Tables.{table-within}
 use Rattle.shape.specs.Form.{Form}
 use Rattle.shape.specs.Numbering.{Numbering, total}
 use Rattle.shape.specs.Reply.{outcomeReply, numberedReply, refused}
-use Rattle.shape.specs.Check.{unless, andThen, Sized, formOf, roomOf, roomFor, contents, checked, numberCheck, reply, unlessRefused}
+use Rattle.shape.specs.Check.{unless, andThen, Sized, recordLength, lengthOf, roomOf, roomFor, contents, checked, numberCheck, reply, unlessRefused}
 use Rattle.shape.specs.Calls.{checkReply}
 use Rattle.shape.specs.declared.Form.{Form as Name}
-use Rattle.shape.specs.declared.Form.the-variants.{Pattern, Permutation}
+use Rattle.shape.specs.declared.Form.the-variants.{Pattern, Permutation, Record}
 use Rattle.shape.specs.declared.Refusal.{Refusal}
 use Rattle.shape.specs.declared.Refusal.the-variants.{Size, Length, Number}
 use Rattle.shape.specs.declared.Outcome.{Outcome}
@@ -118,40 +118,44 @@ module _ (o : Outcome) (t : Bool) (f : Refusal) (e : o ≡ Done) where
 
 -- ---- room for a list, test by test
 
-pub pattern-asks : (form : Name) (n : ℕ) → form ≡ Pattern → 2 * n ≡ formOf form .lengthOf n
+pub pattern-asks : (form : Name) (n : ℕ) → form ≡ Pattern → 2 * n ≡ lengthOf form n
 pattern-asks form n e = rw e
 
-pub permutation-asks : (form : Name) (n : ℕ) → form ≡ Permutation → n ≡ formOf form .lengthOf n
+pub permutation-asks : (form : Name) (n : ℕ) → form ≡ Permutation → n ≡ lengthOf form n
 permutation-asks form n e = rw e
 
-module _ (F : Form) (n m : ℕ) where
-  pub room-none : n ≡ 0 → Refused Size ≡ roomOf F n m
-  room-none none = sym (room-size F n m .1 (λ s. omega arith))
+pub record-asks : (form : Name) (n : ℕ) → form ≡ Record → recordLength n ≡ lengthOf form n
+record-asks form n e = rw e
 
-  pub room-large : largestSize < n → Refused Size ≡ roomOf F n m
-  room-large large = sym (room-size F n m .1 (λ s. omega arith))
+module _ (long : ℕ → ℕ) (n m : ℕ) where
+  pub room-none : n ≡ 0 → Refused Size ≡ roomOf long n m
+  room-none none = sym (room-size long n m .1 (λ s. omega arith))
+
+  pub room-large : largestSize < n → Refused Size ≡ roomOf long n m
+  room-large large = sym (room-size long n m .1 (λ s. omega arith))
 
   -- v is the length that the code found the form to ask
-  module _ (v : ℕ) (e : v ≡ F .lengthOf n) (some : n ≡ 0 → ⊥) (small : n ≤ largestSize) where
-    pub room-other : (m ≡ v → ⊥) → Refused Length ≡ roomOf F n m
-    room-other other = sym (room-length F n m .1 ((omega arith, small), λ g. other (g ∙ sym e)))
+  module _ (v : ℕ) (e : v ≡ long n) (some : n ≡ 0 → ⊥) (small : n ≤ largestSize) where
+    pub room-other : (m ≡ v → ⊥) → Refused Length ≡ roomOf long n m
+    room-other other = sym (room-length long n m .1 ((omega arith, small), λ g. other (g ∙ sym e)))
 
-    pub room-fits : m ≡ v → Done ≡ roomOf F n m
-    room-fits long = sym (room-done F n m .1 ((omega arith, small), long ∙ e))
+    pub room-fits : m ≡ v → Done ≡ roomOf long n m
+    room-fits fits = sym (room-done long n m .1 ((omega arith, small), fits ∙ e))
 
-module _ (F : Form) (n : ℕ) (p : List ℕ) (r : Outcome) (e : r ≡ roomFor F n p) where
-  pub room-told : (o : Outcome) → r ≡ o → roomFor F n p ≡ o
-  room-told o h = sym e ∙ h
+  -- r is what they were found to answer
+  module _ (r : Outcome) (e : r ≡ roomOf long n m) where
+    pub room-told : (o : Outcome) → r ≡ o → roomOf long n m ≡ o
+    room-told o h = sym e ∙ h
 
-  module _ (h : r ≡ Done) where
-    pub room-some : 1 ≤ n
-    room-some = room-done F n (length p) .0 (room-told Done h) .0 .0
+    module _ (h : r ≡ Done) where
+      pub room-some : 1 ≤ n
+      room-some = room-done long n m .0 (room-told Done h) .0 .0
 
-    pub room-small : n ≤ largestSize
-    room-small = room-done F n (length p) .0 (room-told Done h) .0 .1
+      pub room-small : n ≤ largestSize
+      room-small = room-done long n m .0 (room-told Done h) .0 .1
 
-    pub room-long : length p ≡ F .lengthOf n
-    room-long = room-done F n (length p) .0 (room-told Done h) .1
+      pub room-long : m ≡ long n
+      room-long = room-done long n m .0 (room-told Done h) .1
 
 -- ---- the check of a list that is read
 
@@ -192,7 +196,7 @@ module _ (N : Numbering) (k : ℕ) (p : List ℕ) (r : Outcome) (e : r ≡ roomF
   -- v is what the table of the Catalan numbers says of the size
   module _ (h : r ≡ Done) (v : ℕ) (t : v ≡ tableAt (N .nodes)) where
     there : Sized (N .nodes) × (length p ≡ N .form .lengthOf (N .nodes))
-    there = room-done (N .form) (N .nodes) (length p) .0 (sym e ∙ h)
+    there = room-done (N .form .lengthOf) (N .nodes) (length p) .0 (sym e ∙ h)
 
     limit : v ≡ total N
     limit = t ∙ table-within (N .nodes) (omega (arith, there .0 .1))
@@ -230,6 +234,7 @@ pub ruleset answered = (
   step-left,
   pattern-asks,
   permutation-asks,
+  record-asks,
   room-none,
   room-large,
   room-other,

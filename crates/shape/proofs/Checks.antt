@@ -81,36 +81,43 @@ refuses-then P (Refused f) next h k = h
 
 -- ---- room for a list, and what it holds
 
-module _ (F : Form) (n m : ℕ) where
+module _ (long : ℕ → ℕ) (n m : ℕ) where
   -- the test of the length
-  abbrev long : Bool
-  long = eqb m (F .lengthOf n)
+  abbrev fits : Bool
+  fits = eqb m (long n)
 
-  long-means : (long ≡ true) ↔ (m ≡ F .lengthOf n)
-  long-means = equal-means m (F .lengthOf n)
+  fits-means : (fits ≡ true) ↔ (m ≡ long n)
+  fits-means = equal-means m (long n)
 
-  pub room-size : (roomOf F n m ≡ Refused Size) ↔ (Sized n → ⊥)
+  pub room-size : (roomOf long n m ≡ Refused Size) ↔ (Sized n → ⊥)
   unfolding roomOf
   room-size =
-      failed (sized n) Size (unless long Length Done) (sized-means n) (refuses-unless (λ i. 1 < i) long Length Done (omega arith) tt)
+      failed (sized n) Size (unless fits Length Done) (sized-means n) (refuses-unless (λ i. 1 < i) fits Length Done (omega arith) tt)
 
-  pub room-length : (roomOf F n m ≡ Refused Length) ↔ (Sized n × (m ≡ F .lengthOf n → ⊥))
+  pub room-length : (roomOf long n m ≡ Refused Length) ↔ (Sized n × (m ≡ long n → ⊥))
   unfolding roomOf
-  room-length = passed (sized n) Size (unless long Length Done) (Refused Length) (sized-means n) (omega arith) (failed long Length Done long-means tt)
+  room-length = passed (sized n) Size (unless fits Length Done) (Refused Length) (sized-means n) (omega arith) (failed fits Length Done fits-means tt)
 
-  pub room-done : (roomOf F n m ≡ Done) ↔ (Sized n × (m ≡ F .lengthOf n))
+  pub room-done : (roomOf long n m ≡ Done) ↔ (Sized n × (m ≡ long n))
   unfolding roomOf
-  room-done = passed (sized n) Size (unless long Length Done) Done (sized-means n) tt (passed-last long Length long-means)
+  room-done = passed (sized n) Size (unless fits Length Done) Done (sized-means n) tt (passed-last fits Length fits-means)
 
   -- refusals 1 and 2 only
-  room-most : (P : ℕ → Type 0) → P 1 → P 2 → Refuses P (roomOf F n m)
+  room-most : (P : ℕ → Type 0) → P 1 → P 2 → Refuses P (roomOf long n m)
   unfolding roomOf
-  room-most P g h = refuses-unless P (sized n) Size (unless long Length Done) g (refuses-unless P long Length Done h tt)
+  room-most P g h = refuses-unless P (sized n) Size (unless fits Length Done) g (refuses-unless P fits Length Done h tt)
+
+  -- what comes after the tests of the size and of the length
+  pub room-after : {Q : Type 0} (next a : Outcome) → Refuses (λ i. 3 ≤ i) a → (next ≡ a) ↔ Q
+      → (andThen (roomOf long n m) next ≡ a) ↔ (Sized n × (m ≡ long n) × Q)
+  room-after next a h e =
+      let lower = room-most (λ i. i < 3) (omega arith) (omega arith) in
+      Iff·trans (then-second 3 (roomOf long n m) next a lower h room-done e) (
+        λ ((s, l), q). (s, l, q),
+        λ (s, l, q). ((s, l), q),
+      )
 
 module _ (F : Form) (n : ℕ) (p : List ℕ) where
-  abbrev Long : Type 0
-  Long = length p ≡ F .lengthOf n
-
   -- the tests
   abbrev entries : Bool
   entries = every (length p) (F .entryTest n p)
@@ -118,28 +125,18 @@ module _ (F : Form) (n : ℕ) (p : List ℕ) where
   abbrev shape : Bool
   shape = every (length p) (F .shapeTest n p)
 
-  -- what comes after the tests of the size and of the length
-  pub room-after : {Q : Type 0} (next a : Outcome) → Refuses (λ m. 3 ≤ m) a → (next ≡ a) ↔ Q
-      → (andThen (roomFor F n p) next ≡ a) ↔ (Sized n × Long × Q)
-  room-after next a h e =
-      let lower = room-most F n (length p) (λ m. m < 3) (omega arith) (omega arith) in
-      Iff·trans (then-second 3 (roomFor F n p) next a lower h (room-done F n (length p)) e) (
-        λ ((s, l), q). (s, l, q),
-        λ (s, l, q). ((s, l), q),
-      )
-
   pub checked-entry : (checked F n p ≡ Refused Entry) ↔ (Sized n × (length p ≡ F .lengthOf n) × (every (length p) (F .entryTest n p) ≡ false))
   unfolding checked contents
   checked-entry =
       let after : After Entry (unless shape Shape Done) = refuses-unless (λ m. 3 < m) shape Shape Done (omega arith) tt in
-      room-after (contents F n p) (Refused Entry) (omega arith)
+      room-after (F .lengthOf) n (length p) (contents F n p) (Refused Entry) (omega arith)
       (Iff·trans (failed entries Entry (unless shape Shape Done) Iff·rfl after) not-eq-not)
 
   pub checked-passes : (checked F n p ≡ Done) ↔ (Sized n × Passes F n p)
   unfolding checked contents
   checked-passes =
       let tests = passed entries Entry (unless shape Shape Done) Done Iff·rfl tt (passed-last shape Shape Iff·rfl) in
-      Iff·trans (room-after (contents F n p) Done tt tests) (
+      Iff·trans (room-after (F .lengthOf) n (length p) (contents F n p) Done tt tests) (
         λ (s, l, (e, h)). (s, record { long = l; entries = e; shape = h }),
         λ (s, t). (s, t .long, (t .entries, t .shape)),
       )
@@ -155,20 +152,20 @@ module _ (F : Form) (n : ℕ) (p : List ℕ) where
   unfolding checked
   checked-size =
       Iff·trans (then-first (roomFor F n p) (contents F n p) Size (refuses-contents (λ m. 1 < m) (omega arith) (omega arith)))
-      (room-size F n (length p))
+      (room-size (F .lengthOf) n (length p))
 
   pub checked-length : (checked F n p ≡ Refused Length) ↔ (Sized n × (length p ≡ F .lengthOf n → ⊥))
   unfolding checked
   checked-length =
       Iff·trans (then-first (roomFor F n p) (contents F n p) Length (refuses-contents (λ m. 2 < m) (omega arith) (omega arith)))
-      (room-length F n (length p))
+      (room-length (F .lengthOf) n (length p))
 
   -- refusals 1 to 4 only
   checked-most : Refuses (λ m. m < 5) (checked F n p)
   unfolding checked
   checked-most =
       let P : ℕ → Type 0 = λ m. m < 5 in
-      refuses-then P (roomFor F n p) (contents F n p) (room-most F n (length p) P (omega arith) (omega arith))
+      refuses-then P (roomFor F n p) (contents F n p) (room-most (F .lengthOf) n (length p) P (omega arith) (omega arith))
       (refuses-contents P (omega arith) (omega arith))
 
 module _ (F : Form) (tested : Tested F) (n : ℕ) (p : List ℕ) where
@@ -178,7 +175,7 @@ module _ (F : Form) (tested : Tested F) (n : ℕ) (p : List ℕ) where
   checked-shape =
       let last = failed (shape F n p) Shape Done Iff·rfl tt in
       let tests = passed (entries F n p) Entry (unless (shape F n p) Shape Done) (Refused Shape) Iff·rfl (omega arith) last in
-      Iff·trans (room-after F n p (contents F n p) (Refused Shape) (omega arith) tests) (
+      Iff·trans (room-after (F .lengthOf) n (length p) (contents F n p) (Refused Shape) (omega arith) tests) (
         λ (s, l, (e, h)). (s, l, e, λ w. h (tested n p .1 w .shape)),
         λ (s, l, e, h). (s, l, (e, λ t. h (tested n p .0 (record { long = l; entries = e; shape = t })))),
       )
@@ -201,24 +198,24 @@ module _ (N : Numbering) (k : ℕ) (p : List ℕ) where
   pub number-refused : (numberCheck N k p ≡ Refused Number) ↔ (Sized (N .nodes) × (length p ≡ N .form .lengthOf (N .nodes)) × (total N ≤ k))
   unfolding numberCheck
   number-refused =
-      room-after (N .form) (N .nodes) p asked (Refused Number) (omega arith)
+      room-after (N .form .lengthOf) (N .nodes) (length p) asked (Refused Number) (omega arith)
       (Iff·trans (failed (ltb k (total N)) Number Done (less-means k (total N)) tt) (λ g. omega arith, λ l m. omega arith))
 
   pub number-done : (numberCheck N k p ≡ Done) ↔ (Sized (N .nodes) × (length p ≡ N .form .lengthOf (N .nodes)) × (k < total N))
   unfolding numberCheck
-  number-done = room-after (N .form) (N .nodes) p asked Done tt (passed-last (ltb k (total N)) Number (less-means k (total N)))
+  number-done = room-after (N .form .lengthOf) (N .nodes) (length p) asked Done tt (passed-last (ltb k (total N)) Number (less-means k (total N)))
 
   pub number-size : (numberCheck N k p ≡ Refused Size) ↔ (Sized (N .nodes) → ⊥)
   unfolding numberCheck
   number-size =
       Iff·trans (then-first room asked Size (refuses-unless (λ m. 1 < m) (ltb k (total N)) Number Done (omega arith) tt))
-      (room-size (N .form) (N .nodes) (length p))
+      (room-size (N .form .lengthOf) (N .nodes) (length p))
 
   pub number-length : (numberCheck N k p ≡ Refused Length) ↔ (Sized (N .nodes) × (length p ≡ N .form .lengthOf (N .nodes) → ⊥))
   unfolding numberCheck
   number-length =
       Iff·trans (then-first room asked Length (refuses-unless (λ m. 2 < m) (ltb k (total N)) Number Done (omega arith) tt))
-      (room-length (N .form) (N .nodes) (length p))
+      (room-length (N .form .lengthOf) (N .nodes) (length p))
 
 -- ---- a step
 

@@ -13,7 +13,7 @@ use native.Mathlib.Decide.{ℕ-discrete}
 use native.Mathlib.Omega.{arith}
 use lib.ListN.{length}
 use Rattle.shape.specs.Form.{Form, every, Faithful, Tested}
-use Rattle.shape.specs.Check.{andThen, Sized, roomFor, checked}
+use Rattle.shape.specs.Check.{andThen, Sized, roomOf, checked}
 use Rattle.shape.specs.Calls.{conversionCheck, conversionEnd}
 use Rattle.shape.specs.declared.Refusal.the-variants.{Size, Length, Entry, Shape}
 use Rattle.shape.specs.declared.Outcome.{Outcome}
@@ -27,63 +27,63 @@ then-either : (o next a : Outcome) → andThen o next ≡ a → (o ≡ a) ⊎ (n
 then-either Done next a e = inr e
 then-either (Refused f) next a e = inl e
 
-module _ (F G : Form) (n : ℕ) (p q : List ℕ) where
-  pub conversion-size : (conversionCheck F G n p q ≡ Refused Size) ↔ (Sized n → ⊥)
+module _ (F : Form) (long : ℕ → ℕ) (n : ℕ) (p q : List ℕ) where
+  pub conversion-size : (conversionCheck F long n p q ≡ Refused Size) ↔ (Sized n → ⊥)
   unfolding conversionCheck
   conversion-size = (
-    λ e. elim (then-either (roomFor G n q) (checked F n p) (Refused Size) e) [
-      | inl r ↦ room-size G n (length q) .0 r
+    λ e. elim (then-either (roomOf long n (length q)) (checked F n p) (Refused Size) e) [
+      | inl r ↦ room-size long n (length q) .0 r
       | inr c ↦ checked-size F n p .0 c
     ],
-    λ g. then-refused (roomFor G n q) (checked F n p) (Refused Size) Size refl (room-size G n (length q) .1 g),
+    λ g. then-refused (roomOf long n (length q)) (checked F n p) (Refused Size) Size refl (room-size long n (length q) .1 g),
   )
 
-  pub conversion-length : (conversionCheck F G n p q ≡ Refused Length)
-      ↔ (Sized n × ((length q ≡ G .lengthOf n) × (length p ≡ F .lengthOf n) → ⊥))
+  pub conversion-length : (conversionCheck F long n p q ≡ Refused Length)
+      ↔ (Sized n × ((length q ≡ long n) × (length p ≡ F .lengthOf n) → ⊥))
   unfolding conversionCheck
   conversion-length = (
-    λ e. elim (then-either (roomFor G n q) (checked F n p) (Refused Length) e) [
-      | inl r ↦ let (s, h) = room-length G n (length q) .0 r in (s, λ (a, b). h a)
+    λ e. elim (then-either (roomOf long n (length q)) (checked F n p) (Refused Length) e) [
+      | inl r ↦ let (s, h) = room-length long n (length q) .0 r in (s, λ (a, b). h a)
       | inr c ↦ let (s, h) = checked-length F n p .0 c in (s, λ (a, b). h b)
     ],
-    λ (s, h). elim (ℕ-discrete (length q) (G .lengthOf n)) [
-      | yes a ↦ then-next (roomFor G n q) (checked F n p) (Refused Length) (room-done G n (length q) .1 (s, a))
+    λ (s, h). elim (ℕ-discrete (length q) (long n)) [
+      | yes a ↦ then-next (roomOf long n (length q)) (checked F n p) (Refused Length) (room-done long n (length q) .1 (s, a))
           (checked-length F n p .1 (s, λ b. h (a, b)))
-      | no a ↦ then-refused (roomFor G n q) (checked F n p) (Refused Length) Length refl (room-length G n (length q) .1 (s, a))
+      | no a ↦ then-refused (roomOf long n (length q)) (checked F n p) (Refused Length) Length refl (room-length long n (length q) .1 (s, a))
     ],
   )
 
-  pub conversion-entry : (conversionCheck F G n p q ≡ Refused Entry)
-      ↔ (Sized n × (length q ≡ G .lengthOf n) × (length p ≡ F .lengthOf n) × (every (length p) (F .entryTest n p) ≡ false))
+  pub conversion-entry : (conversionCheck F long n p q ≡ Refused Entry)
+      ↔ (Sized n × (length q ≡ long n) × (length p ≡ F .lengthOf n) × (every (length p) (F .entryTest n p) ≡ false))
   unfolding conversionCheck
   conversion-entry =
-      Iff·trans (room-after G n q (checked F n p) (Refused Entry) (omega arith) (checked-entry F n p)) (
+      Iff·trans (room-after long n (length q) (checked F n p) (Refused Entry) (omega arith) (checked-entry F n p)) (
         λ (s, l, (_, m, e)). (s, l, m, e),
         λ (s, l, m, e). (s, l, (s, m, e)),
       )
 
   module _ (tested : Tested F) where
-    pub conversion-shape : (conversionCheck F G n p q ≡ Refused Shape)
-        ↔ (Sized n × (length q ≡ G .lengthOf n) × (length p ≡ F .lengthOf n) × (every (length p) (F .entryTest n p) ≡ true)
+    pub conversion-shape : (conversionCheck F long n p q ≡ Refused Shape)
+        ↔ (Sized n × (length q ≡ long n) × (length p ≡ F .lengthOf n) × (every (length p) (F .entryTest n p) ≡ true)
         × (F .WellFormed n p → ⊥))
     unfolding conversionCheck
     conversion-shape =
-        Iff·trans (room-after G n q (checked F n p) (Refused Shape) (omega arith) (checked-shape F tested n p)) (
+        Iff·trans (room-after long n (length q) (checked F n p) (Refused Shape) (omega arith) (checked-shape F tested n p)) (
           λ (s, l, (_, m, e, w)). (s, l, m, e, w),
           λ (s, l, m, e, w). (s, l, (s, m, e, w)),
         )
 
-    pub conversion-done : (conversionCheck F G n p q ≡ Done) ↔ (Sized n × (length q ≡ G .lengthOf n) × F .WellFormed n p)
+    pub conversion-done : (conversionCheck F long n p q ≡ Done) ↔ (Sized n × (length q ≡ long n) × F .WellFormed n p)
     unfolding conversionCheck
     conversion-done =
-        Iff·trans (room-after G n q (checked F n p) Done tt (checked-done F tested n p)) (
+        Iff·trans (room-after long n (length q) (checked F n p) Done tt (checked-done F tested n p)) (
           λ (s, l, (_, w)). (s, l, w),
           λ (s, l, w). (s, l, (s, w)),
         )
 
 -- ---- there and back
 
-module _ (F G : Form) (n : ℕ) (p q : List ℕ) (done : conversionCheck F G n p q ≡ Done) (faithful : Faithful G) where
+module _ (F G : Form) (n : ℕ) (p q : List ℕ) (done : conversionCheck F (G .lengthOf) n p q ≡ Done) (faithful : Faithful G) where
   pub conversion-tree : G .read (conversionEnd F G n p q) ≡ F .read p
   unfolding conversionEnd
   conversion-tree = rw done (faithful .read-write (F .read p))
@@ -91,10 +91,10 @@ module _ (F G : Form) (n : ℕ) (p q : List ℕ) (done : conversionCheck F G n p
   pub conversion-back : Faithful F → Tested F → Tested G → (p′ : List ℕ) → length p′ ≡ F .lengthOf n
       → conversionEnd G F n (conversionEnd F G n p q) p′ ≡ p
   conversion-back f tested-f tested-g p′ long =
-      let (sized, _, formed) = conversion-done F G n p q tested-f .0 done in
+      let (sized, _, formed) = conversion-done F (G .lengthOf) n p q tested-f .0 done in
       let end = conversionEnd F G n p q in
       let end-formed : G .WellFormed n end =
       unfold conversionEnd in rw (done, ← f .read-size n p formed) (faithful .write-formed (F .read p)) in
-      let back = conversion-done G F n end p′ tested-g .1 (sized, long, end-formed) in
+      let back = conversion-done G (F .lengthOf) n end p′ tested-g .1 (sized, long, end-formed) in
       let again : conversionEnd G F n end p′ ≡ F .write (G .read end) = unfold conversionEnd in rw back in
       again ∙ ap (F .write) conversion-tree ∙ f .write-read n p formed

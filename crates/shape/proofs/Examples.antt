@@ -2,6 +2,7 @@
 --     local-.., natural-..     lines 4 and 5, and lines 9 and 10, which the two orders list the other way round
 --     depth-..          the prefix excess of three shapes of size 3
 --     figure-..         004, figure 2: a tree of seven nodes and its permutation
+--     record-lengths    1 + ceil(n/4) bytes
 --     not-..            01's edges: 100110 is not feasible, 2,3,1 and 2,2,1 are no tree permutations
 -- Assumes nothing.
 use mathlib.Core.Path.{_≡_, refl}
@@ -12,6 +13,7 @@ use Rattle.shape.specs.Tree.{Tree, empty, node, size, permutation, permu
 use Rattle.shape.specs.Form.{count, below, cutTree, permutationTree, Feasible, TreePermutation}
 use Rattle.shape.specs.Order.{Local, Natural}
 use Rattle.shape.specs.Number.{largest, depth}
+use Rattle.shape.specs.Check.{recordLength}
 
 -- a node with no parts, and the shapes of lines 4, 5, 9 and 10
 abbrev leaf : Tree
@@ -63,6 +65,9 @@ figure-written = refl
 figure-read : permutationTree (5 ∷ 2 ∷ 1 ∷ 3 ∷ 4 ∷ 7 ∷ 6 ∷ []) ≡ figure
 unfolding figure permutationTree cutTree below
 figure-read = refl
+
+record-lengths : (recordLength 1 ≡ 2) × (recordLength 3 ≡ 2) × (recordLength 4 ≡ 2) × (recordLength 5 ≡ 3) × (recordLength 35 ≡ 10)
+record-lengths = (refl, refl, refl, refl, refl)
 
 not-feasible : Feasible 3 (1 ∷ 0 ∷ 0 ∷ 1 ∷ 1 ∷ 0 ∷ []) → ⊥
 unfolding count

@@ -5,14 +5,16 @@
 --     shapeReply, shapeEnd                     the shape with a number
 --     successorReply, successorEnd             one step on
 --     predecessorReply, predecessorEnd         one step back
---     conversionCheck, conversionReply, conversionEnd      p, written in the form F, written in the form G, in the place of q
+--     conversionCheck                          of p, written in the form F, that is to be written otherwise in the place of q, `long n` entries
+--     conversionReply, conversionEnd           p, written in the form F, written in the form G, in the place of q
 -- Assumes nothing.
 use mathlib.Core.List.{List}
 use Prim.Native.Nat.{ℕ}
+use lib.ListN.{length}
 use Rattle.shape.specs.Form.{Form}
 use Rattle.shape.specs.Numbering.{Numbering, next, previous}
 use Rattle.shape.specs.Reply.{Reply, outcomeReply}
-use Rattle.shape.specs.Check.{andThen, roomFor, checked, numberCheck, successorCheck, predecessorCheck, reply, unlessRefused}
+use Rattle.shape.specs.Check.{andThen, roomOf, checked, numberCheck, successorCheck, predecessorCheck, reply, unlessRefused}
 use Rattle.shape.specs.declared.Outcome.{Outcome}
 
 -- 01, Refusal numbers, 1 to 4.
@@ -43,11 +45,11 @@ unfoldable pub predecessorEnd : Numbering → List ℕ → List ℕ
 predecessorEnd N p = unlessRefused (predecessorCheck N p) (previous N p) p
 
 -- 01, Refusal numbers: the lowest that applies. What q holds is no reason to refuse; its length is, and that comes before what p holds.
-unfoldable pub conversionCheck : Form → Form → ℕ → List ℕ → List ℕ → Outcome
-conversionCheck F G n p q = andThen (roomFor G n q) (checked F n p)
+unfoldable pub conversionCheck : Form → (ℕ → ℕ) → ℕ → List ℕ → List ℕ → Outcome
+conversionCheck F long n p q = andThen (roomOf long n (length q)) (checked F n p)
 
 unfoldable pub conversionReply : Form → Form → ℕ → List ℕ → List ℕ → Reply
-conversionReply F G n p q = outcomeReply (conversionCheck F G n p q)
+conversionReply F G n p q = outcomeReply (conversionCheck F (G .lengthOf) n p q)
 
 unfoldable pub conversionEnd : Form → Form → ℕ → List ℕ → List ℕ → List ℕ
-conversionEnd F G n p q = unlessRefused (conversionCheck F G n p q) (G .write (F .read p)) q
+conversionEnd F G n p q = unlessRefused (conversionCheck F (G .lengthOf) n p q) (G .write (F .read p)) q

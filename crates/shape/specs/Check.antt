@@ -2,7 +2,8 @@
 --     unless t f next       refused for f where the test t fails, and otherwise what comes next
 --     andThen               the first refusal of two checks
 --     sized n, Sized n      the test of a size, and what it tests
---     formOf                the form that a caller names
+--     recordLength          how many bytes a packed record has
+--     lengthOf              how long what a caller names is to be
 --     roomOf, roomFor       what is asked of a list that is written, by its length
 --     contents              and of what a list holds
 --     checked F n p         a list that is lent to be read as a shape of size n, written in the form F: refusals 1 to 4
@@ -12,7 +13,7 @@
 -- Assumes nothing.
 use mathlib.Core.Bool.{Bool, true, false, _&&_}
 use mathlib.Core.List.{List}
-use Prim.Native.Nat.{ℕ, _+_, _≤_}
+use Prim.Native.Nat.{ℕ, _+_, _/_, _≤_}
 use lib.Dec.{leb, ltb, eqb}
 use lib.ListN.{length}
 use Rattle.catalan.specs.Count.{largestSize}
@@ -20,7 +21,7 @@ use Rattle.shape.specs.Form.{Form, patterns, permutations, every}
 use Rattle.shape.specs.Numbering.{Numbering, total}
 use Rattle.shape.specs.Reply.{Reply, numberedReply}
 use Rattle.shape.specs.declared.Form.{Form as Name}
-use Rattle.shape.specs.declared.Form.the-variants.{Pattern, Permutation}
+use Rattle.shape.specs.declared.Form.the-variants.{Pattern, Permutation, Record}
 use Rattle.shape.specs.declared.Refusal.{Refusal}
 use Rattle.shape.specs.declared.Refusal.the-variants.{Size, Length, Entry, Shape, Number, Last, First}
 use Rattle.shape.specs.declared.Outcome.{Outcome}
@@ -43,17 +44,23 @@ sized n = leb 1 n && leb n largestSize
 abbrev pub Sized : ℕ → Type 0
 Sized n = (1 ≤ n) × (n ≤ largestSize)
 
-abbrev pub formOf : Name → Form
-formOf Pattern = patterns
-formOf Permutation = permutations
+-- 01, Packed record: 1 + ceil(n/4) bytes.
+abbrev pub recordLength : ℕ → ℕ
+recordLength n = 1 + (n + 3) / 4
 
--- 1 and 2, of a list of m entries.
-unfoldable pub roomOf : Form → ℕ → ℕ → Outcome
-roomOf F n m = unless (sized n) Size (unless (eqb m (F .lengthOf n)) Length Done)
+-- 2: 2n places, n entries, or the record's length.
+abbrev pub lengthOf : Name → ℕ → ℕ
+lengthOf Pattern n = patterns .lengthOf n
+lengthOf Permutation n = permutations .lengthOf n
+lengthOf Record n = recordLength n
+
+-- 1 and 2, of a list of m entries that is to be as long as `long` says.
+unfoldable pub roomOf : (ℕ → ℕ) → ℕ → ℕ → Outcome
+roomOf long n m = unless (sized n) Size (unless (eqb m (long n)) Length Done)
 
 -- All that is asked of a list that is only written.
 abbrev pub roomFor : Form → ℕ → List ℕ → Outcome
-roomFor F n p = roomOf F n (length p)
+roomFor F n p = roomOf (F .lengthOf) n (length p)
 
 -- 3 and 4.
 unfoldable pub contents : Form → ℕ → List ℕ → Outcome

@@ -4,12 +4,14 @@ ghost use mathlib.Core.Path.{_≡_};
 ghost use Prim.Native.Nat.{_≤_};
 ghost use Rattle.catalan.specs.Count.{largestSize};
 ghost use Rattle.shape.specs.Reply.{refusalNumber};
-ghost use Rattle.shape.specs.Check.{formOf, roomOf};
+ghost use Rattle.shape.specs.Check.{lengthOf, roomOf};
 
 // How a shape is written.
 pub enum Form {
     Pattern,
     Permutation,
+    // packed into bytes, with its size
+    Record,
 }
 
 // Why a call refuses, in the order of the refusals' numbers, 1 to 11. Where several apply, a call gives the first, but for the
@@ -74,7 +76,7 @@ impl Refusal {
 
 // Whether the size is 1 to 35, and a slice of that length as long as the form asks.
 pub fn room(form: Form, size: usize, length: usize) -> Outcome
-    ensures { λ r. ⌜ r ≡ roomOf (formOf form) size length ⌝ }
+    ensures { λ r. ⌜ r ≡ roomOf (lengthOf form) size length ⌝ }
 {
     if size == 0 {
         return Outcome::Refused(Refusal::Size);
@@ -90,10 +92,11 @@ pub fn room(form: Form, size: usize, length: usize) -> Outcome
 
 fn length_of(form: Form, size: usize) -> usize
     requires { ⌜ size ≤ largestSize ⌝ }
-    ensures { λ r. ⌜ r ≡ formOf form .lengthOf size ⌝ }
+    ensures { λ r. ⌜ r ≡ lengthOf form size ⌝ }
 {
     match form {
         Form::Pattern => 2 * size,
         Form::Permutation => size,
+        Form::Record => 1 + (size + 3) / 4,
     }
 }

@@ -17,7 +17,15 @@ length-of-spec =
     (λ c. search asked)
     -- enum-told-2
     (λ c. search asked)
+    -- enum-told-3
+    (λ c. search asked)
+    -- add-result
+    (λ c. search asked)
+    -- add-result-2
+    (λ c. search asked)
     -- returns
     (λ c. search asked)
     -- returns-2
+    (λ c. search asked)
+    -- returns-3
     (λ c. search asked))
