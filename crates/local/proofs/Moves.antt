@@ -4,6 +4,7 @@
 --     next-answers, next-leaves, previous-answers, previous-leaves      a step answers its change and leaves the neighbour
 --     next-none-answers, next-none-leaves, previous-none-answers, previous-none-leaves      at the end of the order it answers 0 and
 --                                     leaves the pattern as it is
+--     first-change, later-change      what the step back finds gives the change of any pattern
 -- Assumes nothing.
 use mathlib.Core.Path.{_≡_, refl, sym, ap, _∙_, subst, subst₂}
 use mathlib.Core.List.{List, [], _∷_, _++_, append-assoc}
@@ -12,6 +13,7 @@ use native.Mathlib.Omega.{arith}
 use lib.ListN.{length, take, drop, set, replicate, length-append, length-replicate, replicate-append-replicate}
 use lib.Seq.{drop-at, set-at, append-snoc, take-append-seam, take-append-add, drop-append-add}
 use Rattle.shape.specs.Form.{Feasible}
+use Rattle.shape.specs.Number.{localNumber, change}
 use Rattle.shape.proofs.Patterns.{feasible-length}
 use Rattle.shape.proofs.Neighbours.{pairs, greatest, least, lower, upper, Neighbours, neighbours, neighbours-back}
 use Rattle.local.specs.Places.{blockStart, pairsStart, everySecond, nextChange, nextPattern, previousChange, previousPattern}
@@ -176,6 +178,10 @@ module _ (n : ℕ) (p : List ℕ) (end start : ℕ) (g : Feasible n p) (he : end
   pub previous-none-leaves : start ≡ 0 → p ≡ previousPattern n p
   previous-none-leaves none = sym (previous-none n p (omega (arith, first-found n p g end he start hs none)) .1)
 
+  pub first-change : start ≡ 0 → 2 * n ≡ change n (localNumber p)
+  unfolding change
+  first-change none = rw (first-found n p g end he start hs none)
+
   module _ (inside : start ≡ 0 → ⊥) where
     pub previous-room : Room n p end start
     previous-room =
@@ -185,6 +191,12 @@ module _ (n : ℕ) (p : List ℕ) (end start : ℕ) (g : Feasible n p) (he : end
 
     pub previous-answers : 2 * n - start + 1 ≡ previousChange n p
     previous-answers = let (m, h) = fall-found n p g end he start hs inside in sym (previous-neighbour (fallen n p start g m) .0)
+
+    pub later-change : 2 * n - start + 1 ≡ change n (localNumber p)
+    later-change =
+        let (m, h) = fall-found n p g end he start hs inside in
+        let below = fallen n p start g m in
+        sym (ap (change n) (below .higher) ∙ below .changed)
 
     pub previous-leaves : (q r : List ℕ) → q ≡ seconds 0 end (set p (start - 1) 0)
         → r ≡ take start q ++ (replicate (start + (2 * n - end) / 2 + 1 - start) 1 ++ drop (start + (2 * n - end) / 2 + 1) q)

@@ -2,16 +2,18 @@
 // that a caller who steps from pattern to pattern pays for a check once.
 mod steps;
 
+pub use steps::change;
 pub use steps::next;
 pub use steps::previous;
 ghost use mathlib.Core.Path.{_≡_};
-ghost use Prim.Native.Nat.{_*_, _≤_, _<_};
-ghost use lib.Dec.{ltb};
-ghost use lib.ListN.{length};
+ghost use Prim.Native.Nat.{_-_, _*_, _≤_, _<_};
+ghost use lib.Dec.{leb, ltb};
+ghost use lib.ListN.{length, getD};
 ghost use Rattle.catalan.specs.Count.{C, largestSize};
 ghost use Rattle.shape.specs.Tree.{head};
 ghost use Rattle.shape.specs.Form.{Feasible, patternTree};
 ghost use Rattle.shape.specs.Number.{localNumber, localPattern, depth as depthOf};
+ghost use Rattle.shape.specs.Faults.{firstFault};
 
 // From the last place to the first, since a 1 asks for the ways to finish what stands after it with one 0 fewer: that row grows by one 0
 // at a time, and is held for one 0 fewer than have been passed. The last place is a 0, and asks for nothing.

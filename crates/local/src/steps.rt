@@ -5,6 +5,7 @@ ghost use mathlib.Core.List.{_++_};
 ghost use Prim.Native.Nat.{_-_, _≤_};
 ghost use lib.ListN.{length, take, drop, replicate};
 ghost use Rattle.shape.specs.Form.{Feasible};
+ghost use Rattle.shape.specs.Number.{localNumber, change as changeOf};
 ghost use Rattle.local.specs.Places.{blockStart, pairsStart, everySecond};
 ghost use Rattle.local.specs.Places.{nextChange, nextPattern, previousChange, previousPattern};
 
@@ -44,6 +45,20 @@ pub fn previous(size: usize, places: &mut [u8]) -> u64
     put_pairs(places, 0, pairs);
     put(places, 1, zeros, zeros + (last - pairs) / 2 + 1);
     (last - zeros + 1) as u64
+}
+
+// The change of the pattern, as the step back finds it, and all of its places for the first.
+pub fn change(size: usize, places: &[u8]) -> u64
+    requires { ⌜ Feasible size (now places) ⌝ }
+    ensures { λ r. ⌜ r ≡ changeOf size (localNumber (now (places .entry))) ⌝ }
+{
+    let last = 2 * size;
+    let pairs = pairs_start(places, last);
+    let changed = block_start(places, 0, pairs);
+    if changed == 0 {
+        return last as u64;
+    }
+    (last - changed + 1) as u64
 }
 
 fn block_start(places: &[u8], place: u8, end: usize) -> usize
