@@ -118,3 +118,19 @@ pub fn before(size: usize, first: &[u8], second: &[u8]) -> bool
     }
     false
 }
+
+// The first place from `from` on that is above `most`; where there is none, as many as there are places. Of all that stands here this alone
+// asks for no pattern.
+pub fn first_above(places: &[u8], most: u8, from: usize) -> usize
+    requires { ⌜ from ≤ length (now places) ⌝ }
+    ensures { λ r. ⌜ r ≡ firstFault from (length (now (places .entry)) - from) (λ i. leb (getD (now (places .entry)) i 0) most) ⌝ }
+{
+    let mut i = from;
+    while i < places.len() {
+        if places[i] > most {
+            return i;
+        }
+        i += 1;
+    }
+    i
+}
