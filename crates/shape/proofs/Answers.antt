@@ -29,7 +29,8 @@ use Rattle.catalan.proofs.Tables.{table-within}
 use Rattle.shape.specs.Form.{Form}
 use Rattle.shape.specs.Numbering.{Numbering, total}
 use Rattle.shape.specs.Reply.{outcomeReply, numberedReply, refused}
-use Rattle.shape.specs.Check.{unless, andThen, Sized, recordLength, lengthOf, roomOf, roomFor, contents, checked, numberCheck, reply, unlessRefused}
+use Rattle.shape.specs.Check.{unless, andThen, Sized, recordLength, lengthOf, roomOf, roomFor, contents, checked, numberCheck, reply}
+use Rattle.shape.specs.Check.{unlessRefused}
 use Rattle.shape.specs.Calls.{checkReply}
 use Rattle.shape.specs.declared.Form.{Form as Name}
 use Rattle.shape.specs.declared.Form.the-variants.{Pattern, Permutation, Record}

@@ -1,5 +1,7 @@
 -- What the checks answer, exactly when: each refusal where its own test fails and no lower one does, and done where none fails.
 --     sized-means                        the test of a size passes for 1 to 35
+--     Refuses, Other, refuses-unless, differ, passed, failed, passed-last      one test after another: what it means that none, one of them or
+--                                        another one has failed
 --     room-size, room-length, room-done  refusals 1 and 2 of a list that is only written
 --     room-after                         what a check answers after these two, 3 or above
 --     checked-size, checked-length, checked-entry, checked-shape       refusals 1 to 4 of a list that is lent to be read
@@ -34,33 +36,34 @@ sized-means n = and-means (le-means 1 n) (le-means n largestSize)
 -- ---- one test after another
 
 -- what holds of the refusal's number, where there is one
-abbrev Refuses : (ℕ → Type 0) → Outcome → Type 0
+abbrev pub Refuses : (ℕ → Type 0) → Outcome → Type 0
 Refuses P Done = Unit
 Refuses P (Refused f) = P (refusalNumber f)
 
--- done, or a refusal with a number after that of f
-abbrev After : Refusal → Outcome → Type 0
-After f = Refuses (λ m. refusalNumber f < m)
+-- done, or a refusal other than f
+abbrev pub Other : Refusal → Outcome → Type 0
+Other f = Refuses (λ m. m ≡ refusalNumber f → ⊥)
 
-refuses-unless : (P : ℕ → Type 0) (t : Bool) (f : Refusal) (next : Outcome) → P (refusalNumber f) → Refuses P next → Refuses P (unless t f next)
+pub refuses-unless : (P : ℕ → Type 0) (t : Bool) (f : Refusal) (next : Outcome) → P (refusalNumber f) → Refuses P next → Refuses P (unless t f next)
 refuses-unless P true f next h k = k
 refuses-unless P false f next h k = h
 
-differ : (f : Refusal) (a : Outcome) → After f a → Refused f ≡ a → ⊥
-differ f a h e = let more = subst (After f) (sym e) h in omega arith
+pub differ : (f : Refusal) (a : Outcome) → Other f a → Refused f ≡ a → ⊥
+differ f a h e = subst (Other f) (sym e) h refl
 
--- an answer after f: the test passes, and what comes next is that answer
-passed : {P Q : Type 0} (t : Bool) (f : Refusal) (next a : Outcome) → (t ≡ true) ↔ P → After f a → (next ≡ a) ↔ Q → (unless t f next ≡ a) ↔ (P × Q)
-passed true f next a m h e = (λ r. (m .0 refl, e .0 r), λ (k, q). e .1 q)
+-- an answer other than f: the test passes, and what comes next is that answer
+pub passed : {P Q : Type 0} (t : Bool) (f : Refusal) (next a : Outcome) → (t ≡ true) ↔ P → Other f a → (P → (next ≡ a) ↔ Q)
+    → (unless t f next ≡ a) ↔ (P × Q)
+passed true f next a m h e = (λ r. (m .0 refl, e (m .0 refl) .0 r), λ (k, q). e k .1 q)
 passed false f next a m h e = (λ r. absurd (differ f a h r), λ (k, q). absurd (false≢true (m .1 k)))
 
--- the answer f, where all that comes next is after it: the test fails
-failed : {P : Type 0} (t : Bool) (f : Refusal) (next : Outcome) → (t ≡ true) ↔ P → After f next → (unless t f next ≡ Refused f) ↔ (P → ⊥)
+-- the answer f, where nothing that comes next gives it: the test fails
+pub failed : {P : Type 0} (t : Bool) (f : Refusal) (next : Outcome) → (t ≡ true) ↔ P → Other f next → (unless t f next ≡ Refused f) ↔ (P → ⊥)
 failed true f next m h = (λ r. absurd (differ f next h (sym r)), λ g. absurd (g (m .0 refl)))
 failed false f next m h = (λ r k. false≢true (m .1 k), λ g. refl)
 
-passed-last : {P : Type 0} (t : Bool) (f : Refusal) → (t ≡ true) ↔ P → (unless t f Done ≡ Done) ↔ P
-passed-last t f m = let e = passed t f Done Done m tt Iff·rfl in (λ r. e .0 r .0, λ k. e .1 (k, refl))
+pub passed-last : {P : Type 0} (t : Bool) (f : Refusal) → (t ≡ true) ↔ P → (unless t f Done ≡ Done) ↔ P
+passed-last t f m = let e = passed t f Done Done m tt (λ k. Iff·rfl) in (λ r. e .0 r .0, λ k. e .1 (k, refl))
 
 -- One check after another: an answer of the second, and one of the first.
 then-second : {P Q : Type 0} (k : ℕ) (o next a : Outcome) → Refuses (λ m. m < k) o → Refuses (λ m. k ≤ m) a → (o ≡ Done) ↔ P → (next ≡ a) ↔ Q
@@ -71,7 +74,7 @@ then-second k (Refused f) next a l h m e = (
   λ (d, q). absurd (differ f Done tt (m .1 d)),
 )
 
-then-first : (o next : Outcome) (f : Refusal) → After f next → (andThen o next ≡ Refused f) ↔ (o ≡ Refused f)
+then-first : (o next : Outcome) (f : Refusal) → Other f next → (andThen o next ≡ Refused f) ↔ (o ≡ Refused f)
 then-first Done next f h = (λ r. absurd (differ f next h (sym r)), λ r. absurd (differ f Done tt (sym r)))
 then-first (Refused g) next f h = Iff·rfl
 
@@ -92,15 +95,17 @@ module _ (long : ℕ → ℕ) (n m : ℕ) where
   pub room-size : (roomOf long n m ≡ Refused Size) ↔ (Sized n → ⊥)
   unfolding roomOf
   room-size =
-      failed (sized n) Size (unless fits Length Done) (sized-means n) (refuses-unless (λ i. 1 < i) fits Length Done (omega arith) tt)
+      failed (sized n) Size (unless fits Length Done) (sized-means n) (refuses-unless (λ i. i ≡ 1 → ⊥) fits Length Done (λ e. omega arith) tt)
 
   pub room-length : (roomOf long n m ≡ Refused Length) ↔ (Sized n × (m ≡ long n → ⊥))
   unfolding roomOf
-  room-length = passed (sized n) Size (unless fits Length Done) (Refused Length) (sized-means n) (omega arith) (failed fits Length Done fits-means tt)
+  room-length =
+      passed (sized n) Size (unless fits Length Done) (Refused Length) (sized-means n) (λ e. omega arith)
+      (λ s. failed fits Length Done fits-means tt)
 
   pub room-done : (roomOf long n m ≡ Done) ↔ (Sized n × (m ≡ long n))
   unfolding roomOf
-  room-done = passed (sized n) Size (unless fits Length Done) Done (sized-means n) tt (passed-last fits Length fits-means)
+  room-done = passed (sized n) Size (unless fits Length Done) Done (sized-means n) tt (λ s. passed-last fits Length fits-means)
 
   -- refusals 1 and 2 only
   room-most : (P : ℕ → Type 0) → P 1 → P 2 → Refuses P (roomOf long n m)
@@ -128,14 +133,14 @@ module _ (F : Form) (n : ℕ) (p : List ℕ) where
   pub checked-entry : (checked F n p ≡ Refused Entry) ↔ (Sized n × (length p ≡ F .lengthOf n) × (every (length p) (F .entryTest n p) ≡ false))
   unfolding checked contents
   checked-entry =
-      let after : After Entry (unless shape Shape Done) = refuses-unless (λ m. 3 < m) shape Shape Done (omega arith) tt in
+      let other : Other Entry (unless shape Shape Done) = refuses-unless (λ m. m ≡ 3 → ⊥) shape Shape Done (λ e. omega arith) tt in
       room-after (F .lengthOf) n (length p) (contents F n p) (Refused Entry) (omega arith)
-      (Iff·trans (failed entries Entry (unless shape Shape Done) Iff·rfl after) not-eq-not)
+      (Iff·trans (failed entries Entry (unless shape Shape Done) Iff·rfl other) not-eq-not)
 
   pub checked-passes : (checked F n p ≡ Done) ↔ (Sized n × Passes F n p)
   unfolding checked contents
   checked-passes =
-      let tests = passed entries Entry (unless shape Shape Done) Done Iff·rfl tt (passed-last shape Shape Iff·rfl) in
+      let tests = passed entries Entry (unless shape Shape Done) Done Iff·rfl tt (λ e. passed-last shape Shape Iff·rfl) in
       Iff·trans (room-after (F .lengthOf) n (length p) (contents F n p) Done tt tests) (
         λ (s, l, (e, h)). (s, record { long = l; entries = e; shape = h }),
         λ (s, t). (s, t .long, (t .entries, t .shape)),
@@ -151,13 +156,13 @@ module _ (F : Form) (n : ℕ) (p : List ℕ) where
   pub checked-size : (checked F n p ≡ Refused Size) ↔ (Sized n → ⊥)
   unfolding checked
   checked-size =
-      Iff·trans (then-first (roomFor F n p) (contents F n p) Size (refuses-contents (λ m. 1 < m) (omega arith) (omega arith)))
+      Iff·trans (then-first (roomFor F n p) (contents F n p) Size (refuses-contents (λ m. m ≡ 1 → ⊥) (λ e. omega arith) (λ e. omega arith)))
       (room-size (F .lengthOf) n (length p))
 
   pub checked-length : (checked F n p ≡ Refused Length) ↔ (Sized n × (length p ≡ F .lengthOf n → ⊥))
   unfolding checked
   checked-length =
-      Iff·trans (then-first (roomFor F n p) (contents F n p) Length (refuses-contents (λ m. 2 < m) (omega arith) (omega arith)))
+      Iff·trans (then-first (roomFor F n p) (contents F n p) Length (refuses-contents (λ m. m ≡ 2 → ⊥) (λ e. omega arith) (λ e. omega arith)))
       (room-length (F .lengthOf) n (length p))
 
   -- refusals 1 to 4 only
@@ -174,7 +179,7 @@ module _ (F : Form) (tested : Tested F) (n : ℕ) (p : List ℕ) where
   unfolding checked contents
   checked-shape =
       let last = failed (shape F n p) Shape Done Iff·rfl tt in
-      let tests = passed (entries F n p) Entry (unless (shape F n p) Shape Done) (Refused Shape) Iff·rfl (omega arith) last in
+      let tests = passed (entries F n p) Entry (unless (shape F n p) Shape Done) (Refused Shape) Iff·rfl (λ e. omega arith) (λ e. last) in
       Iff·trans (room-after (F .lengthOf) n (length p) (contents F n p) (Refused Shape) (omega arith) tests) (
         λ (s, l, (e, h)). (s, l, e, λ w. h (tested n p .1 w .shape)),
         λ (s, l, e, h). (s, l, (e, λ t. h (tested n p .0 (record { long = l; entries = e; shape = t })))),
@@ -208,13 +213,13 @@ module _ (N : Numbering) (k : ℕ) (p : List ℕ) where
   pub number-size : (numberCheck N k p ≡ Refused Size) ↔ (Sized (N .nodes) → ⊥)
   unfolding numberCheck
   number-size =
-      Iff·trans (then-first room asked Size (refuses-unless (λ m. 1 < m) (ltb k (total N)) Number Done (omega arith) tt))
+      Iff·trans (then-first room asked Size (refuses-unless (λ m. m ≡ 1 → ⊥) (ltb k (total N)) Number Done (λ e. omega arith) tt))
       (room-size (N .form .lengthOf) (N .nodes) (length p))
 
   pub number-length : (numberCheck N k p ≡ Refused Length) ↔ (Sized (N .nodes) × (length p ≡ N .form .lengthOf (N .nodes) → ⊥))
   unfolding numberCheck
   number-length =
-      Iff·trans (then-first room asked Length (refuses-unless (λ m. 2 < m) (ltb k (total N)) Number Done (omega arith) tt))
+      Iff·trans (then-first room asked Length (refuses-unless (λ m. m ≡ 2 → ⊥) (ltb k (total N)) Number Done (λ e. omega arith) tt))
       (room-length (N .form .lengthOf) (N .nodes) (length p))
 
 -- ---- a step
@@ -225,7 +230,7 @@ module _ (N : Numbering) (p : List ℕ) (t : Bool) (f : Refusal) (high : 5 ≤ r
   reading = checked (N .form) (N .nodes) p
 
   step-lower : (g : Refusal) → refusalNumber g < 5 → (andThen reading (unless t f Done) ≡ Refused g) ↔ (reading ≡ Refused g)
-  step-lower g l = then-first reading (unless t f Done) g (refuses-unless (λ m. refusalNumber g < m) t f Done (omega arith) tt)
+  step-lower g l = then-first reading (unless t f Done) g (refuses-unless (λ m. m ≡ refusalNumber g → ⊥) t f Done (λ e. omega arith) tt)
 
   module _ (tested : Tested (N .form)) {P : Type 0} (means : (t ≡ true) ↔ P) where
     step-after : {Q : Type 0} (a : Outcome) → Refuses (λ m. 5 ≤ m) a → (unless t f Done ≡ a) ↔ Q
