@@ -1,6 +1,7 @@
 -- The change of a pattern, and the changes of a whole size.
 --     difference-here, difference-later      two lists differ first at the first place, or one place later than without it
 --     first-difference       what the first difference of two lists in order is: before it they agree, there they differ
+--     length-local           the pattern with a number has 2n places
 --     change-places          the change counts the places from the first difference to the end
 --     change-least, change-most      it is at least 1 and at most 2n
 --     changes-counted        the changes of all numbers of size n count the prefixes of its patterns, but for the empty one
@@ -50,7 +51,7 @@ first-difference (agree {x} {p} {q} d) =
 
 -- ---- one change
 
-length-local : (n k : ℕ) → k < C n → length (localPattern n k) ≡ 2 * n
+pub length-local : (n k : ℕ) → k < C n → length (localPattern n k) ≡ 2 * n
 length-local n k h = feasible-length n (localPattern n k) (local-lawful n .shape-formed k h)
 
 neighbours : (n k : ℕ) → suc k < C n → Dictionary (localPattern n k) (localPattern n (suc k))

@@ -5,6 +5,7 @@
 --     outcome-exact, numbered-exact    so what is said of the reply is said of the answer
 --     outcome-silent, refused-silent   the value is 0 where there is nothing to say
 --     done-accepted, value-accepted    the refusal's number is 0 where nothing is refused
+--     told-value, told-refused         what a number, or a refusal, tells of the check before it
 -- Assumes nothing.
 use mathlib.Core.Path.{_≡_, refl, sym, ap, _∙_}
 use mathlib.Core.Logic.{_↔_}
@@ -13,7 +14,8 @@ use Prim.Native.Nat.{ℕ, _-_, _≤_}
 use native.Mathlib.Omega.{arith}
 use lib.Dec.{T, leb, leb→le}
 use lib.ListN.{getD}
-use Rattle.shape.specs.Reply.{refusalNumber, Reply, outcomeReply, numberedReply}
+use Rattle.shape.specs.Reply.{refusalNumber, Reply, refused, outcomeReply, numberedReply}
+use Rattle.shape.specs.Check.{reply}
 use Rattle.shape.specs.declared.Refusal.{Refusal}
 use Rattle.shape.specs.declared.Refusal.the-variants.{Size, Length, Entry, Shape, Number, Last, First, Range, State, Record, Input}
 use Rattle.shape.specs.declared.Outcome.{Outcome}
@@ -87,3 +89,12 @@ done-accepted = refl
 
 pub value-accepted : (k : ℕ) → numberedReply (Value k) .refusal ≡ 0
 value-accepted k = refl
+
+-- o is the check, and k what is said where it is done
+pub told-value : (o : Outcome) (k v : ℕ) → numberedReply (Value v) ≡ reply o k → (o ≡ Done) × (v ≡ k)
+told-value Done k v e = (refl, ap (λ (y : Reply). y .value) e)
+told-value (Refused f) k v e = absurd (omega (arith, same-refusal e, refusal-least f))
+
+pub told-refused : (o : Outcome) (k : ℕ) (f : Refusal) → refused f ≡ reply o k → o ≡ Refused f
+told-refused Done k f e = absurd (omega (arith, same-refusal e, refusal-least f))
+told-refused (Refused g) k f e = ap Refused (refusal-known g f (sym (same-refusal e)))
