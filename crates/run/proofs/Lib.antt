@@ -1,0 +1,9 @@
+pub mod Places
+pub mod States
+pub mod Runs
+pub mod Cuts
+pub mod Examples
+pub mod Tests
+pub mod Answers
+pub mod Replies
+pub mod Determined
