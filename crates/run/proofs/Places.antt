@@ -2,7 +2,7 @@
 --     test-fails                       a test of what is not so fails
 --     same-means, same-other           the test of two lists passes exactly where they are one list, and fails where they are not
 --     range-means                      the test of a state's numbers
---     zeros-at, zeros-from             zeros, place by place, and from a place on
+--     zeros-from                       zeros from a place on
 --     placesAt-next, placesAt-end      before the end a state holds the pattern that comes next, and 0 behind it; at the end 0 only
 --     take-padded, drop-padded         of a state's places the first 2n are the pattern, and the others 0
 --     padded-means, padded-written     which is all that makes them, and how they come out when the pattern is written over the first 2n
@@ -20,6 +20,7 @@ use lib.Seq.{take-at, drop-at, getD-drop, ext-getD}
 use borrow.Author.Tests.{lt-ltb, le-ltb}
 use Rattle.catalan.specs.Count.{C, largestSize}
 use Rattle.shape.specs.Number.{localPattern}
+use Rattle.shape.proofs.Lists.{zeros-at}
 use Rattle.shape.proofs.Tests.{le-means, equal-means, and-means}
 use Rattle.shape.proofs.Changes.{length-local}
 use Rattle.run.specs.State.{statePlaces, noPlaces, padded, placesAt, same, inRange}
@@ -47,11 +48,6 @@ pub range-means : (n k end : ℕ) → (inRange n k end ≡ true) ↔ ((k ≤ end
 range-means n k end = and-means (le-means k end) (le-means end (C n))
 
 -- ---- zeros
-
-pub zeros-at : (m i : ℕ) → _≡_ {A = ℕ} (getD (replicate m 0) i 0) 0
-zeros-at zero i = refl
-zeros-at (suc m) zero = refl
-zeros-at (suc m) (suc i) = zeros-at m i
 
 pub zeros-from : (l : List ℕ) (m : ℕ) → (drop m l ≡ replicate (length l - m) 0) ↔ ((i : ℕ) → m ≤ i → getD l i 0 ≡ 0)
 zeros-from l m = (

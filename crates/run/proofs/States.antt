@@ -20,6 +20,7 @@ use Rattle.shape.specs.Check.{unless, sized, Sized}
 use Rattle.shape.specs.declared.Refusal.{Refusal}
 use Rattle.shape.specs.declared.Refusal.the-variants.{Size, Range, State}
 use Rattle.shape.specs.declared.Outcome.the-variants.{Done, Refused}
+use Rattle.shape.proofs.Lists.{zeros-at}
 use Rattle.shape.proofs.Tests.{less-means, and-means}
 use Rattle.shape.proofs.Checks.{sized-means, refuses-unless, passed, failed, passed-last}
 use Rattle.run.specs.declared.Run.{Run}
@@ -28,7 +29,7 @@ use Rattle.run.specs.declared.Progress.the-variants.{Handed, Done as AtE
 use Rattle.run.specs.State.{statePlaces, placesAt, inRange, belong}
 use Rattle.run.specs.Calls.{startCheck, progress, raised, stepRun}
 use Rattle.run.specs.Sound.{Sound}
-use Rattle.run.proofs.Places.{same-means, range-means, zeros-at, zeros-from, placesAt-next, placesAt-end, padded-means, length-placesAt}
+use Rattle.run.proofs.Places.{same-means, range-means, zeros-from, placesAt-next, placesAt-end, padded-means, length-placesAt}
 
 -- ---- a start
 

@@ -10,12 +10,13 @@
 --     triples-append, triples-left, triples-right    the same for every three; triples-append is told of those with one or two in u
 --     all-at, pairs-at, triples-at                   of a list of numbers: so it is at positions i, i < j, i < j < k
 --     all-of, pairs-of, triples-of                   and what is so at all such positions is so of the list
+--     zeros-at                                       zeros, place by place
 -- Assumes nothing.
 use mathlib.Core.Path.{_≡_, refl, ap, subst⁻¹}
 use mathlib.Core.List.{List, [], _∷_, _++_, map, List·Memᴰ, List·Memᴰ·head, List·Memᴰ·tail}
 use Prim.Native.Nat.{ℕ, zero, suc, _<_}
 use native.Mathlib.Omega.{arith}
-use lib.ListN.{length, getD}
+use lib.ListN.{length, getD, replicate}
 use Rattle.shape.specs.Every.{All, Pairs, Triples}
 
 module _ {A : Type 0} where
@@ -158,3 +159,10 @@ module _ (T : ℕ → ℕ → ℕ → Type 0) where
     pairs-of (T x) p (λ j k b l. h 0 (suc j) (suc k) (omega arith) (omega arith) (omega arith)),
     triples-of p (λ i j k a b l. h (suc i) (suc j) (suc k) (omega arith) (omega arith) (omega arith)),
   )
+
+-- ---- zeros
+
+pub zeros-at : (m i : ℕ) → _≡_ {A = ℕ} (getD (replicate m 0) i 0) 0
+zeros-at zero i = refl
+zeros-at (suc m) zero = refl
+zeros-at (suc m) (suc i) = zeros-at m i
