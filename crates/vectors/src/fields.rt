@@ -1,4 +1,4 @@
-// A line's fields, with single spaces between them, and what they stand for: words, numbers, places, and entries.
+// A line's fields, with single spaces between them, and what they stand for: words, numbers, places, entries, and bytes.
 ghost use Prim.Native.Nat.{_≤_};
 ghost use lib.ListN.{length};
 ghost use Rattle.io.specs.Counts.{Counts};
@@ -8,6 +8,12 @@ pub fn field(line: &[u8], k: usize) -> &[u8] {
     let start = start_of(line, k);
     let end = end_of(line, start, b' ');
     &line[start..end]
+}
+
+// What the line has from its k-th field on; empty where it has fewer.
+pub fn rest(line: &[u8], k: usize) -> &[u8] {
+    let start = start_of(line, k);
+    &line[start..]
 }
 
 fn start_of(line: &[u8], k: usize) -> usize
@@ -129,4 +135,35 @@ fn entry(text: &[u8]) -> u16 {
         return 65535;
     }
     value as u16
+}
+
+// The bytes that a text shows, written as entries are. Answers how many there was room for.
+pub fn read_bytes(text: &[u8], bytes: &mut [u8]) -> usize
+    ensures { λ r. ⌜ Counts r (now (bytes .exit)) ⌝ }
+{
+    let mut entries = [0u16; 36];
+    let count = read_entries(text, &mut entries);
+    narrow(&entries[..count], bytes)
+}
+
+fn narrow(entries: &[u16], bytes: &mut [u8]) -> usize
+    ensures { λ r. ⌜ Counts r (now (bytes .exit)) ⌝ }
+{
+    let mut k = 0;
+    while k < entries.len() {
+        if k >= bytes.len() {
+            return k;
+        }
+        bytes[k] = byte(entries[k]);
+        k += 1;
+    }
+    k
+}
+
+// The largest there is where the entry is larger than that.
+fn byte(entry: u16) -> u8 {
+    if entry > 255 {
+        return 255;
+    }
+    entry as u8
 }

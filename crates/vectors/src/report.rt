@@ -32,9 +32,31 @@ pub const TO_PATTERN: usize = 9;
 
 pub const TO_PERMUTATION: usize = 10;
 
+pub const START: usize = 11;
+
+pub const HANDED: usize = 12;
+
+pub const PLACES: usize = 13;
+
+pub const CHANGE: usize = 14;
+
+pub const SIZE: usize = 15;
+
+pub const NEXT: usize = 16;
+
+pub const END: usize = 17;
+
+pub const FIGURE: usize = 18;
+
+pub const COUNT: usize = 19;
+
+pub const WRITE: usize = 20;
+
+pub const READ: usize = 21;
+
 pub fn name(label: usize) {
     word(field(
-        b"check number depth head later shape is on back to_pattern to_permutation",
+        b"check number depth head later shape is on back to_pattern to_permutation start handed places change size next end figure count write read",
         label,
     ));
 }
@@ -65,6 +87,31 @@ pub fn holds_entries(label: usize, got: &[u16], expected: &[u8]) {
     let mut text = [0u8; 216];
     let count = spell_entries(got, &mut text);
     shows(label, &text[..count], expected);
+}
+
+// Expects the bytes that the text shows, written as entries are.
+pub fn holds_bytes(label: usize, got: &[u8], expected: &[u8]) {
+    let mut entries = [0u16; 36];
+    let count = widen(got, &mut entries);
+    holds_entries(label, &entries[..count], expected);
+}
+
+fn widen(bytes: &[u8], entries: &mut [u16]) -> usize
+    ensures { λ r. ⌜ Counts r (now (entries .exit)) ⌝ }
+{
+    let mut k = 0;
+    while k < bytes.len() {
+        if k >= entries.len() {
+            return k;
+        }
+        entries[k] = wide(bytes[k]);
+        k += 1;
+    }
+    k
+}
+
+fn wide(byte: u8) -> u16 {
+    byte as u16
 }
 
 fn shows(label: usize, text: &[u8], expected: &[u8]) {
@@ -163,6 +210,11 @@ pub fn value(label: usize, got: Numbered, refusal: u64, expected: u64) {
         }
         Numbered::Refused(given) => refused(given, refusal),
     }
+}
+
+// Expects that number.
+pub fn equals(label: usize, got: u64, expected: u64) {
+    value(label, Numbered::Value(got), 0, expected);
 }
 
 // Expects that refusal, or where that is 0, done.
