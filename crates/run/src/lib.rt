@@ -91,6 +91,7 @@ impl Run {
             return self.stays(Progress::Done);
         }
         let change = local::change(size, &places[0..2 * size]);
+        // 64 bits hold no figure above this number
         if self.figure > 18446744073709551615 - change {
             return self.stays(Progress::Refused(Refusal::State));
         }
