@@ -1,19 +1,18 @@
 -- Laws of numbers, bits and bytes: each is found again in what it was written as.
 --     Bit, Byte                                  0 or 1; below 256
 --     all-take, all-drop, all-zeros, zeros-all   what holds of all holds of each part; zeros throughout
---     length-bits, bits-below, bits-at           k bits, each of them 0 or 1
+--     length-bits, bits-below                    k bits, each of them 0 or 1
 --     bits-more, bits-low                        the last k bits do not depend on what stands before them
 --     bits-first, bits-split                     the first bit and the others; the first j bits and the other k
 --     bits-front, bits-back, bits-place          the same as parts of the list, and the bit at a place
---     bits-double                                twice a number has one bit more, which is 0
 --     value-through, value-after, value-first    the bits of one list after those of another, a number, or a bit
---     value-append, value-next                   two lists of bits; one more bit at the end
+--     value-next                                 one more bit at the end
 --     value-below, value-zeros, value-none       below 2 to the number of bits; 0 exactly where all bits are 0
 --     value-bits, value-low, bits-value          a number of k bits is read back, the last k bits of any number, and a list of bits likewise
 --     bits-part                                  the first k bits of a list are those of what they write
 --     length-bytes, bytes-below                  k bytes, each of them below 256
---     length-bitsOf, bitsOf-below, bitsOf-at     eight bits a byte, each of them 0 or 1
---     bitsOf-append, bitsOf-take, bitsOf-drop    the bits of some bytes, of the first k and of those after them
+--     length-bitsOf, bitsOf-below                eight bits a byte, each of them 0 or 1
+--     bitsOf-drop                                the bits after those of the first k bytes
 --     bitsOf-from                                from byte k on: its own bits and those of the bytes after it
 --     bytes-bits, bits-bytes                     bits as bytes and back, bytes as bits and back
 -- Assumes nothing.
@@ -25,11 +24,11 @@ use native.Mathlib.Nat.{mul-le-mul-left, mul-le-mul-right, lt-of-lt-of-le, min-l
 use native.Mathlib.Omega.{arith}
 use lib.Dec.{lit<}
 use lib.ListN.{length, getD, take, drop, replicate, length-append, length-take, length-drop, take-append-drop}
-use lib.Seq.{take-at, drop-at, take-append-add, drop-append-add, take-nil, drop-nil, length-take-le, getD-at, drop-cons}
+use lib.Seq.{take-at, drop-at, drop-append-add, drop-nil, length-take-le, getD-at, drop-cons}
 use lib.Bits.{block-half, block-odd}
 use lib.Pow.{pow-pos, pow-mono, split, high}
 use Rattle.shape.specs.Every.{All}
-use Rattle.shape.proofs.Lists.{all-at, all-append, all-left, all-right}
+use Rattle.shape.proofs.Lists.{all-append, all-left, all-right}
 use Rattle.record.specs.Bits.{bits, valueAfter, value, bytes, bitsOf}
 
 abbrev pub Bit : ℕ → Type 0
@@ -65,9 +64,6 @@ pub bits-below : (k x : ℕ) → All Bit (bits k x)
 unfolding bits
 bits-below zero x = tt
 bits-below (suc k) x = all-append Bit (bits k (x / 2)) (x % 2 ∷ []) (bits-below k (x / 2)) (omega arith, tt)
-
-pub bits-at : (k x i : ℕ) → i < k → getD (bits k x) i 0 ≤ 1
-bits-at k x i h = all-at Bit (bits k x) (bits-below k x) i (rw (length-bits k x) h)
 
 pub bits-more : (k y x : ℕ) → bits k (y * 2 ^ k + x) ≡ bits k x
 unfolding bits
@@ -109,10 +105,6 @@ bits-place j k x =
     ap (λ (l : List ℕ). getD l j 0) (bits-split j (suc k) x ∙ ap (λ (l : List ℕ). front ++ l) (bits-first k x))
     ∙ getD-at front (x / 2 ^ k % 2) (bits k x) 0 j (length-bits j (x / 2 ^ suc k))
 
-pub bits-double : (k x : ℕ) → bits (suc k) (x * 2) ≡ bits k x ++ (0 ∷ [])
-unfolding bits
-bits-double k x = ap₂ {C = List ℕ} (λ y b. bits k y ++ (b ∷ [])) (omega arith) (omega arith)
-
 -- ---- bits as numbers
 
 pub value-through : (x : ℕ) (l m : List ℕ) → valueAfter x (l ++ m) ≡ valueAfter (valueAfter x l) m
@@ -133,9 +125,6 @@ value-after x (b ∷ l) =
 
 pub value-first : (b : ℕ) (l : List ℕ) → value (b ∷ l) ≡ b * 2 ^ length l + value l
 value-first b l = unfold value valueAfter in ap (λ (y : ℕ). valueAfter y l) (zero-add b) ∙ value-after b l
-
-pub value-append : (l m : List ℕ) → value (l ++ m) ≡ value l * 2 ^ length m + value m
-value-append l m = unfold value in value-through 0 l m ∙ value-after (valueAfter 0 l) m
 
 pub value-next : (l : List ℕ) (b : ℕ) → value (l ++ (b ∷ [])) ≡ 2 * value l + b
 unfolding value valueAfter
@@ -205,14 +194,6 @@ unfolding bitsOf
 bitsOf-below [] = tt
 bitsOf-below (x ∷ r) = all-append Bit (bits 8 x) (bitsOf r) (bits-below 8 x) (bitsOf-below r)
 
-pub bitsOf-at : (r : List ℕ) (i : ℕ) → i < 8 * length r → getD (bitsOf r) i 0 ≤ 1
-bitsOf-at r i h = all-at Bit (bitsOf r) (bitsOf-below r) i (rw (length-bitsOf r) h)
-
-pub bitsOf-append : (r s : List ℕ) → bitsOf (r ++ s) ≡ bitsOf r ++ bitsOf s
-unfolding bitsOf
-bitsOf-append [] s = refl
-bitsOf-append (x ∷ r) s = ap (λ (l : List ℕ). bits 8 x ++ l) (bitsOf-append r s) ∙ sym (append-assoc (bits 8 x) (bitsOf r) (bitsOf s))
-
 pub bitsOf-drop : (k : ℕ) (r : List ℕ) → drop (8 * k) (bitsOf r) ≡ bitsOf (drop k r)
 unfolding bitsOf
 bitsOf-drop zero r = refl
@@ -220,15 +201,6 @@ bitsOf-drop (suc k) [] = drop-nil (8 * suc k)
 bitsOf-drop (suc k) (x ∷ r) =
     let count : 8 * suc k ≡ length (bits 8 x) + 8 * k = omega (arith, length-bits 8 x) in
     ap (λ (m : ℕ). drop m (bits 8 x ++ bitsOf r)) count ∙ drop-append-add (bits 8 x) (bitsOf r) (8 * k) ∙ bitsOf-drop k r
-
-pub bitsOf-take : (k : ℕ) (r : List ℕ) → take (8 * k) (bitsOf r) ≡ bitsOf (take k r)
-unfolding bitsOf
-bitsOf-take zero r = refl
-bitsOf-take (suc k) [] = take-nil (8 * suc k)
-bitsOf-take (suc k) (x ∷ r) =
-    let count : 8 * suc k ≡ length (bits 8 x) + 8 * k = omega (arith, length-bits 8 x) in
-    ap (λ (m : ℕ). take m (bits 8 x ++ bitsOf r)) count ∙ take-append-add (bits 8 x) (bitsOf r) (8 * k)
-    ∙ ap (λ (l : List ℕ). bits 8 x ++ l) (bitsOf-take k r)
 
 pub bitsOf-from : (k : ℕ) (r : List ℕ) → k < length r → drop (8 * k) (bitsOf r) ≡ bits 8 (getD r k 0) ++ bitsOf (drop (suc k) r)
 bitsOf-from k r h = bitsOf-drop k r ∙ ap bitsOf (drop-cons r k 0 h) ∙ (unfold bitsOf in refl)

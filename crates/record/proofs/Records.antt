@@ -4,7 +4,7 @@
 --     record-long, record-bytes        a record has as many bytes as its size asks, each of them below 256
 --     record-bits                      its bits are what was to be written
 --     size-back, mark-back, places-back, fill-back      and each part is found in them
---     record-laid, record-layout       so it passes what is asked before its places are looked at
+--     record-laid                      so mark, length and fill are as they should be
 --     record-read                      and it is accepted
 --     laid-record                      the other way: bytes that pass are the record of what is found in them
 --     read-done                        what is accepted, exactly
@@ -33,10 +33,10 @@ use Rattle.shape.proofs.Conversions.{conversion-done}
 use Rattle.shape.proofs.Meanings.{pattern-written, pattern-one}
 use Rattle.record.specs.Bits.{bits, value, bytes, bitsOf}
 use Rattle.record.specs.Record.{fill, recordBits, recordOf, sizeIn, markIn, placesIn, fillIn}
-use Rattle.record.specs.Calls.{layoutCheck, readCheck, readReply, readEnd, writeEnd}
+use Rattle.record.specs.Calls.{readCheck, readReply, readEnd, writeEnd}
 use Rattle.record.proofs.Bits.{Bit, Byte, all-drop, all-zeros, zeros-all, length-bits, bits-below, bits-part, value-bits}
 use Rattle.record.proofs.Bits.{length-bytes, bytes-below, length-bitsOf, bitsOf-below, bytes-bits, bits-bytes}
-use Rattle.record.proofs.Refusals.{Laid, layout-done, read-passes}
+use Rattle.record.proofs.Refusals.{Laid, read-passes}
 
 -- ---- the record of a pattern
 
@@ -125,9 +125,6 @@ module _ (n : ℕ) (p : List ℕ) (sized : Sized n) (formed : Feasible n p) wher
         long = rw size-back (record-long n p);
         filled = λ i l. all-at (λ b. b ≡ 0) (fillIn r) (subst⁻¹ (All (λ b. b ≡ 0)) fill-back (zeros-all (fill n))) i l;
       }
-
-  pub record-layout : layoutCheck r ≡ Done
-  record-layout = layout-done r .1 (rw size-back sized, record-laid)
 
   pub record-read : (q : List ℕ) → length q ≡ 2 * n → readCheck r q ≡ Done
   record-read q e = read-passes r q .1 (rw size-back sized, record-laid, rw size-back e, rw (size-back, places-back) formed)

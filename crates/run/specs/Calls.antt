@@ -1,8 +1,9 @@
 -- What the calls on runs answer, for all numbers and every state s, well formed or not.
 --     progressReply                        a step's answer as a reply: the refusal's number, and how many shapes were handed out
---     startCheck, startReply, startRun     the start of a run; a refused one is a state all 0 (noRun)
+--     startCheck, startReply, startRun     the start of a run (begun); a refused one is a state all 0 (noRun)
 --     raised, progress                     the figure after a step, and how the step goes
 --     ifHanded                             what a step answers where it hands out a shape, and where it does not
+--     movedOn                              the state after a shape was handed out
 --     stepReply, stepRun, stepPlaces, stepChange      the step: its reply, the state that it leaves, the pattern and its change
 -- Assumes nothing.
 use mathlib.Core.Bool.{cond}
