@@ -2,7 +2,10 @@
 // that a caller who steps from pattern to pattern pays for a check once.
 mod steps;
 
+pub use steps::Block;
 pub use steps::change;
+pub use steps::last_block;
+pub use steps::move_block;
 pub use steps::next;
 pub use steps::previous;
 ghost use mathlib.Core.Path.{_≡_};

@@ -2,26 +2,54 @@
 // the other. A step answers the change that it makes or takes back, and 0, which no change is, where there is no step to take.
 ghost use mathlib.Core.Path.{_≡_};
 ghost use mathlib.Core.List.{_++_};
-ghost use Prim.Native.Nat.{_-_, _≤_};
+ghost use Prim.Native.Nat.{_-_, _*_, _≤_};
 ghost use lib.ListN.{length, take, drop, replicate};
 ghost use Rattle.shape.specs.Form.{Feasible};
 ghost use Rattle.shape.specs.Number.{localNumber, change as changeOf};
 ghost use Rattle.local.specs.Places.{blockStart, pairsStart, everySecond};
 ghost use Rattle.local.specs.Places.{nextChange, nextPattern, previousChange, previousPattern};
 
-// The first 1 of the rightmost block moves one place to the front, and the others of the block to the end, each with a 0 after it: nothing
-// smaller can follow. A block at the very front is the last pattern's.
+// The rightmost block of ones: the places from `start` on and before `end`. Behind it stand zeros alone.
+pub struct Block {
+    pub start: usize,
+    pub end: usize,
+}
+
+// Apart from the step, for a caller who holds more than the pattern and has to move that too.
+pub fn last_block(size: usize, places: &[u8]) -> Block
+    requires { ⌜ Feasible size (now places) ⌝ }
+    ensures { λ r. ⌜ r .end ≡ blockStart 0 (now (places .entry)) (2 * size) ⌝ }
+    ensures { λ r. ⌜ r .start ≡ blockStart 1 (now (places .entry)) (r .end) ⌝ }
+{
+    let end = block_start(places, 0, 2 * size);
+    Block {
+        start: block_start(places, 1, end),
+        end: end,
+    }
+}
+
+// A block at the very front is the last pattern's.
 pub fn next(size: usize, places: &mut [u8]) -> u64
     requires { ⌜ Feasible size (now places) ⌝ }
     ensures { λ r. ⌜ r ≡ nextChange size (now (places .entry)) ⌝ }
     ensures { λ _. ⌜ now (places .exit) ≡ nextPattern size (now (places .entry)) ⌝ }
 {
-    let last = 2 * size;
-    let end = block_start(places, 0, last);
-    let start = block_start(places, 1, end);
-    if start == 0 {
+    let block = last_block(size, places);
+    if block.start == 0 {
         return 0;
     }
+    move_block(size, places, block.start, block.end)
+}
+
+// The first 1 of the rightmost block moves one place to the front, and the others of the block to the end, each with a 0 after it: nothing
+// smaller can follow.
+pub fn move_block(size: usize, places: &mut [u8], start: usize, end: usize) -> u64
+    requires { ⌜ Feasible size (now places) ⌝ }
+    requires { ⌜ (end ≡ blockStart 0 (now places) (2 * size)) × (start ≡ blockStart 1 (now places) end) × (start ≡ 0 → ⊥) ⌝ }
+    ensures { λ r. ⌜ r ≡ nextChange size (now (places .entry)) ⌝ }
+    ensures { λ _. ⌜ now (places .exit) ≡ nextPattern size (now (places .entry)) ⌝ }
+{
+    let last = 2 * size;
     places[start - 1] = 1;
     put(places, 0, start, end);
     put_pairs(places, 1, last - 2 * (end - start - 1));

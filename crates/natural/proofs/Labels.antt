@@ -39,11 +39,11 @@ entriesFrom b [] = []
 entriesFrom b (t ∷ ts) = permutationFrom b t ++ entriesFrom (suc (b + size t)) ts
 
 module _ (b c : ℕ) (next : suc b ≡ c) (ts : List Tree) where
-  closing-empty : closing b (empty ∷ ts) ≡ c ∷ closing c ts
+  pub closing-empty : closing b (empty ∷ ts) ≡ c ∷ closing c ts
   unfolding closing size
   closing-empty = rw (add-zero, next)
 
-  entries-empty : entriesFrom b (empty ∷ ts) ≡ entriesFrom c ts
+  pub entries-empty : entriesFrom b (empty ∷ ts) ≡ entriesFrom c ts
   unfolding entriesFrom permutationFrom size
   entries-empty = rw (add-zero, next)
 
@@ -61,7 +61,7 @@ module _ (b : ℕ) (l r : Tree) (ts : List Tree) where
   unfolding entriesFrom
   entries-node = permutation-node b l r _ ∙ rw right-last
 
-joined-labels : (b x : ℕ) (v : List ℕ) (ts : List Tree) → 1 ≤ length v → x ∷ v ≡ closing b ts
+pub joined-labels : (b x : ℕ) (v : List ℕ) (ts : List Tree) → 1 ≤ length v → x ∷ v ≡ closing b ts
     → (v ≡ closing b (joined ts)) × (x ∷ entriesFrom b ts ≡ entriesFrom b (joined ts))
 joined-labels b x v [] some h = absurd (unfold closing in omega (arith, ap length h))
 joined-labels b x v (t ∷ []) some h = absurd (unfold closing in omega (arith, ap length h))
