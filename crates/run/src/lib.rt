@@ -9,6 +9,8 @@ ghost use Rattle.run.specs.Calls.{progressReply, startReply, startRun, s
 use shape::Outcome;
 use shape::Refusal;
 
+// Laid out as C lays it out, since a state is handed to programs in C as it is.
+#[repr(C)]
 pub struct Run {
     pub size: usize,
     // the number of the shape that comes next
