@@ -1,0 +1,9 @@
+pub mod Written
+pub mod Decimals
+pub mod Digits
+pub mod Lengths
+pub mod Putting
+pub mod Lines
+pub mod Counting
+pub mod Examples
+pub mod Reading

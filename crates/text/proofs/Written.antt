@@ -1,0 +1,99 @@
+-- Laws of texts put into a buffer.
+--     written-length          the buffer is as long as it was
+--     written-none            with no text in it, it is as it was
+--     written-stores          stores one after the other are a text
+--     written-then            a text behind a text is both as one
+--     written-start, written-next, written-count, written-end      a text is put byte by byte, and a last byte behind it
+--     Rest                    a text is put piece by piece: with the rest put from r on, the same comes out as at the start
+--     rest-start, rest-next, rest-count, rest-end      so it is at the start, and behind each piece; the last piece is all of the rest
+-- Assumes nothing.
+use mathlib.Core.Path.{_≡_, refl, sym, ap, ap₂, _∙_}
+use mathlib.Core.List.{List, [], _∷_, _++_, append-assoc}
+use Prim.Native.Nat.{ℕ, _+_, _≤_, _<_}
+use native.Mathlib.Nat.{add-zero}
+use native.Mathlib.Numerals.{add-one}
+use native.Mathlib.Omega.{arith}
+use lib.ListN.{length, getD, set, take, drop, length-append, length-drop, take-append-drop}
+use lib.Seq.{take-all, take-suc, length-take-le, take-at, drop-append-add, drop-drop, sets, sets-eq}
+use Rattle.text.specs.Text.{written}
+
+pub written-length : (d : List ℕ) (at : ℕ) (text : List ℕ) → at + length text ≤ length d → length (written d at text) ≡ length d
+written-length d at text room =
+    let end = at + length text in
+    let both = length-append (take at d) (text ++ drop end d) in
+    omega (arith, both, length-append text (drop end d), length-take-le at d (omega arith), length-drop end d)
+
+pub written-none : (d : List ℕ) (at : ℕ) → written d at [] ≡ d
+written-none d at = ap (λ (k : ℕ). take at d ++ drop k d) (add-zero at) ∙ take-append-drop at d
+
+pub written-stores : (d : List ℕ) (at : ℕ) (text : List ℕ) → at + length text ≤ length d → sets d at text ≡ written d at text
+written-stores d at text room = sets-eq text d at room ∙ append-assoc (take at d) text (drop (at + length text) d)
+
+pub written-then : (d : List ℕ) (at : ℕ) (a b : List ℕ) → at + length a ≤ length d
+    → written (written d at a) (at + length a) b ≡ written d at (a ++ b)
+written-then d at a b room =
+    let front = take at d ++ a in
+    let n = at + length a in
+    let long : length front ≡ n = omega (arith, length-append (take at d) a, length-take-le at d (omega arith)) in
+    let behind : drop (n + length b) (front ++ drop n d) ≡ drop (n + length b) d =
+    ap (λ (k : ℕ). drop (k + length b) (front ++ drop n d)) (sym long) ∙ drop-append-add front (drop n d) (length b) ∙ drop-drop (length b) n d in
+    let all : n + length b ≡ at + length (a ++ b) = omega (arith, length-append a b) in
+    ap (λ (l : List ℕ). written l n b) (sym (append-assoc (take at d) a (drop n d)))
+    ∙ ap₂ {C = List ℕ} (λ f r. f ++ (b ++ r)) (take-at front (drop n d) n long) (behind ∙ ap (λ (k : ℕ). drop k d) all)
+    ∙ append-assoc (take at d) a (b ++ drop (at + length (a ++ b)) d)
+    ∙ ap (λ (l : List ℕ). take at d ++ l) (sym (append-assoc a b (drop (at + length (a ++ b)) d)))
+
+-- ---- byte by byte: the first i are put
+
+pub written-start : (d : List ℕ) (at : ℕ) (text : List ℕ) → d ≡ written d at (take 0 text)
+written-start d at text = sym (written-none d at)
+
+module _ (d : List ℕ) (at : ℕ) (text : List ℕ) (i : ℕ) (out : List ℕ) (put : out ≡ written d at (take i text)) (within : i ≤ length text) where
+  behind : (x : ℕ) → at + i < length d → set out (at + i) x ≡ written d at (take i text ++ (x ∷ []))
+  behind x room =
+      let front = take i text in
+      let before = written d at front in
+      let long : at + i ≡ at + length front = ap (λ (k : ℕ). at + k) (sym (length-take-le i text within)) in
+      let same = written-length d at front (omega arith) in
+      ap₂ {C = List ℕ} (λ l k. set l k x) put long ∙ written-stores before (at + length front) (x ∷ []) (omega arith)
+      ∙ written-then d at front (x ∷ []) (omega arith)
+
+  pub written-next : (x : ℕ) → at + length text < length d → i < length text → x ≡ getD text i 0
+      → set out (at + i) x ≡ written d at (take (i + 1) text)
+  written-next x room on e = behind x (omega arith) ∙ rw (e, add-one i, take-suc text i 0 on)
+
+  pub written-end : (end : ℕ) → at + length text < length d → length text ≤ i → set out (at + i) end ≡ written d at (text ++ (end ∷ []))
+  written-end end room done = behind end (omega arith) ∙ rw (take-all i text done)
+
+  pub written-count : (end : ℕ) → length text ≤ i → at + i + 1 ≡ at + length (text ++ (end ∷ []))
+  written-count end done = omega (arith, length-append text (end ∷ []))
+
+-- ---- piece by piece
+
+pub record Rest (d : List ℕ) (at : ℕ) (whole out : List ℕ) (r : ℕ) (rest : List ℕ) : Type 0 where
+  pub room : at + length whole ≤ length d
+  pub same : length out ≡ length d
+  pub count : r + length rest ≡ at + length whole
+  pub text : written out r rest ≡ written d at whole
+
+pub rest-start : (d : List ℕ) (at : ℕ) (whole : List ℕ) → at + length whole ≤ length d → Rest d at whole d at whole
+rest-start d at whole room = record { room = room; same = refl; count = refl; text = refl }
+
+module _ (d : List ℕ) (at : ℕ) (whole out : List ℕ) (r : ℕ) (r′ : ℕ) (out′ : List ℕ) where
+  pub rest-next : (a b : List ℕ) → Rest d at whole out r (a ++ b) → r′ ≡ r + length a → out′ ≡ written out r a → Rest d at whole out′ r′ b
+  rest-next a b left counts put =
+      let both = length-append a b in
+      let within : r + length a ≤ length out = omega (arith, left .room, left .same, left .count) in
+      record {
+        room = left .room;
+        same = ap length put ∙ written-length out r a within ∙ left .same;
+        count = omega (arith, left .count);
+        text = ap₂ {C = List ℕ} (λ l k. written l k b) put counts ∙ written-then out r a b within ∙ left .text;
+      }
+
+  module _ (rest : List ℕ) (left : Rest d at whole out r rest) where
+    pub rest-count : r′ ≡ r + length rest → r′ ≡ at + length whole
+    rest-count counts = counts ∙ left .count
+
+    pub rest-end : out′ ≡ written out r rest → out′ ≡ written d at whole
+    rest-end put = put ∙ left .text
