@@ -68,8 +68,8 @@ module _ (P : ℕ → List ℕ → Type 0) (one : (d : ℕ) → d < 10 → P d (
               let m = n / 10 in
               let d = n % 10 in
               let parts : 10 * m + d ≡ n = omega arith in
-              subst (λ (k : ℕ). P k (decimal k)) parts
-              (subst⁻¹ (P (10 * m + d)) (decimal-next m d (omega arith) (omega arith)) (more m d (omega arith) (omega arith) (below k m (omega arith))))
+              let whole = more m d (omega arith) (omega arith) (below k m (omega arith)) in
+              subst (λ (k : ℕ). P k (decimal k)) parts (subst⁻¹ (P (10 * m + d)) (decimal-next m d (omega arith) (omega arith)) whole)
         ]
 
     pub by-digits : (n : ℕ) → P n (decimal n)

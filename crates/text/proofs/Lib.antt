@@ -7,3 +7,5 @@ pub mod Lines
 pub mod Counting
 pub mod Examples
 pub mod Reading
+pub mod Inputs
+pub mod InputExamples

@@ -4,7 +4,7 @@ ghost use mathlib.Core.Bool.{true, false};
 ghost use Prim.Native.Nat.{_+_, _≤_};
 ghost use lib.ListN.{length, drop};
 ghost use Rattle.shape.specs.Every.{All};
-ghost use Rattle.text.specs.Input.{Digit, front, behind, value, inForm, fits, field as isField, next, reads, askedSize, askedFirst, askedEnd};
+ghost use Rattle.text.specs.Input.{Digit, front, value, inForm, fits, field as isField, next, reads, askedSize, askedFirst, askedEnd};
 
 // What an input asks for; all 0 where it does not read as such a line.
 pub struct Asked {
@@ -135,6 +135,7 @@ fn number(digits: &[u8], next: usize) -> Part
     let mut i = 0;
     while i < digits.len() {
         let digit = (digits[i] - b'0') as u64;
+        // that is, 10 * value + digit > 18446744073709551615, which could not be worked out
         if value > (18446744073709551615 - digit) / 10 {
             return no_field();
         }

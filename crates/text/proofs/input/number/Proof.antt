@@ -1,15 +1,17 @@
--- `text::input::number` meets its contract. The invariant: the digits from i on, after those that write `value`, write what all of them do.
+-- `text::input::number` meets its contract. The invariant: those before i write `value`, which 64 bits hold, and the others after
+-- them write what all of them do.
 -- Assumes nothing.
 use mathlib.Core.Path.{_≡_}
 use Prim.Native.Nat.{_-_, _^_, _<_}
 use lib.ListN.{length, drop}
 use borrow.Author.Needs.{needs}
 use Rattle.text.specs.Input.{value as written, valueFrom}
-use Rattle.text.proofs.Reading.{value-begin, digit-low, digit-small, digit-fits, digit-within, digit-added, value-turn, value-over, value-end, value-held, unread}
+use Rattle.text.proofs.Reading.{unread, digit-low, digit-small, digit-fits, digit-within, digit-added}
+use Rattle.text.proofs.Reading.{value-begin, value-turn, value-over, value-end, value-held}
 use Rattle.text.proofs.input.number.Statement.{statement}
 use Rattle.text.proofs.input.number.Tie as tie
 
-ruleset turn = (needs, value-begin, digit-low, digit-small, digit-fits, digit-within, digit-added, value-turn, value-over, value-end, value-held)
+ruleset turn = (needs, digit-low, digit-small, digit-fits, digit-within, digit-added, value-begin, value-turn, value-over, value-end, value-held)
 
 abbrev Inv-loop : tie.InvT-loop
 Inv-loop digits next value₀ i₀ value i = (value < 2 ^ 64) × (valueFrom value (drop i digits) ≡ written digits)

@@ -1,7 +1,7 @@
 -- `text::input::read` meets its contract: each field where it does not read, a text that goes on after them, and a text that reads.
 -- Assumes nothing.
 use borrow.Author.Needs.{needs}
-use Rattle.text.proofs.Reading.{refused, Read, field-read, field-unread, read-size, read-first, read-end, read-more, read-done}
+use Rattle.text.proofs.Reading.{refused, field-read, field-unread, read-size, read-first, read-end, read-more, read-done}
 use Rattle.text.proofs.input.read.Statement.{statement}
 use Rattle.text.proofs.input.read.Tie as tie
 
@@ -34,7 +34,9 @@ read-spec =
     let two = c .before .before .before .before in
     let one = two .before .before .before in
     refused (c .nothing3 .ensures)
-    (read-end (field-read _ _ _ (one .before .before .field .ensures) (one .if1 .left)) (field-read _ _ _ (two .before .before .field2 .ensures) (two .if2 .left))
+    (read-end
+    (field-read _ _ _ (one .before .before .field .ensures) (one .if1 .left))
+    (field-read _ _ _ (two .before .before .field2 .ensures) (two .if2 .left))
     (field-unread _ _ _ (c .before .before .before .field3 .ensures) (c .before .if3 .taken))))
     -- nothing-requires-4
     (λ c κs. search needs)
@@ -44,12 +46,18 @@ read-spec =
     let two = three .before .before .before in
     let one = two .before .before .before in
     refused (c .nothing4 .ensures)
-    (read-more (field-read _ _ _ (one .before .before .field .ensures) (one .if1 .left)) (field-read _ _ _ (two .before .before .field2 .ensures) (two .if2 .left))
-    (field-read _ _ _ (three .before .before .field3 .ensures) (three .if3 .left)) (c .before .if4 .taken)))
+    (read-more
+    (field-read _ _ _ (one .before .before .field .ensures) (one .if1 .left))
+    (field-read _ _ _ (two .before .before .field2 .ensures) (two .if2 .left))
+    (field-read _ _ _ (three .before .before .field3 .ensures) (three .if3 .left))
+    (c .before .if4 .taken)))
     -- returns-5
     (λ c.
     let three = c .before .before in
     let two = three .before .before .before in
     let one = two .before .before .before in
-    read-done (field-read _ _ _ (one .before .before .field .ensures) (one .if1 .left)) (field-read _ _ _ (two .before .before .field2 .ensures) (two .if2 .left))
-    (field-read _ _ _ (three .before .before .field3 .ensures) (three .if3 .left)) (c .if4 .left)))
+    read-done
+    (field-read _ _ _ (one .before .before .field .ensures) (one .if1 .left))
+    (field-read _ _ _ (two .before .before .field2 .ensures) (two .if2 .left))
+    (field-read _ _ _ (three .before .before .field3 .ensures) (three .if3 .left))
+    (c .if4 .left)))
