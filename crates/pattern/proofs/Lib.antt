@@ -1,4 +1,4 @@
-pub mod Searches
+pub mod Pass
 pub mod Answers
 pub mod Returns
 pub mod Determined

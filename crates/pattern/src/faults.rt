@@ -1,12 +1,13 @@
-// What is wrong with the contents of a slice, in the order of the refusals' numbers. Each place is read once: behind the first that no
-// pattern has there, only a place above 1 is still looked for, since that is the lower refusal.
+// What is wrong with the contents of a slice, in the order of the refusals' numbers. One pass tells whether anything is; only then is a
+// place above 1 looked for, which is the lower refusal.
+ghost use mathlib.Core.Logic.{_↔_};
 ghost use mathlib.Core.Path.{_≡_};
+ghost use mathlib.Core.Bool.{true};
 ghost use Prim.Native.Nat.{_*_, _≤_};
 ghost use lib.ListN.{length};
 ghost use Rattle.catalan.specs.Count.{largestSize};
-ghost use Rattle.shape.specs.Form.{patterns};
+ghost use Rattle.shape.specs.Form.{Feasible, patterns};
 ghost use Rattle.shape.specs.Check.{contents as contentsOf};
-ghost use Rattle.shape.specs.Faults.{firstFault, fits};
 use shape::Outcome;
 use shape::Refusal;
 
@@ -15,35 +16,34 @@ pub(crate) fn contents(size: usize, places: &[u8]) -> Outcome
     requires { ⌜ (size ≤ largestSize) × (length (now places) ≡ 2 * size) ⌝ }
     ensures { λ r. ⌜ r ≡ contentsOf patterns size (now (places .entry)) ⌝ }
 {
-    let fault = first_fault(size, places);
-    if fault == places.len() {
+    if feasible(size, places) {
         return Outcome::Done;
     }
-    if local::first_above(places, 1, fault) < places.len() {
+    if local::first_above(places, 1, 0) < places.len() {
         return Outcome::Refused(Refusal::Entry);
     }
     Outcome::Refused(Refusal::Shape)
 }
 
-// The first place that is above 1, or up to which there are more zeros than ones or more ones than the size.
-fn first_fault(size: usize, places: &[u8]) -> usize
+// Two places in a turn. Faults are counted, and asked for once at the end, since a branch at each place would cost more than the rest of
+// the pass. A place above 1 is one, and a first of two up to which no more than half are ones. Up to a second there are then never more
+// zeros than ones: more than half of an odd number of places is at least half of one place more.
+fn feasible(size: usize, places: &[u8]) -> bool
     requires { ⌜ (size ≤ largestSize) × (length (now places) ≡ 2 * size) ⌝ }
-    ensures { λ r. ⌜ r ≡ firstFault 0 (length (now (places .entry))) (fits patterns size (now (places .entry))) ⌝ }
+    ensures { λ r. ⌜ (r ≡ true) ↔ Feasible size (now (places .entry)) ⌝ }
 {
+    let mut faults = 0;
     let mut ones = 0;
-    let mut i = 0;
-    while i < places.len() {
-        if places[i] > 1 {
-            return i;
-        }
-        ones += places[i] as usize;
-        if ones > size {
-            return i;
-        }
-        if 2 * ones < i + 1 {
-            return i;
-        }
-        i += 1;
+    let mut k = 0;
+    while k < size {
+        let first = places[2 * k] as usize;
+        let second = places[2 * k + 1] as usize;
+        faults += (first | second) / 2 + (ones + first <= k) as usize;
+        ones += first + second;
+        k += 1;
     }
-    i
+    if faults > 0 {
+        return false;
+    }
+    ones == size
 }

@@ -3,6 +3,7 @@
 --     unpacked-long, unpacked-next   the places of a record: as many as there is room for, and each of them a bit of its byte
 --     byte-none, byte-next, byte-end eight places read as a number, one more place at a time
 --     byte-doubled, byte-fits        which stays within a byte
+--     Read, reading                  the loops that read them: what holds so far, and these laws for `search`
 --     packed-first, packed-next      its first byte is four times the size, and each other one holds the next eight places
 --     packed-most, packed-from       of which there are not too many, and some are left for each byte
 -- Assumes nothing.
@@ -13,6 +14,7 @@ use native.Mathlib.Nat.{sub-self, add-sub-of-le, min-le-left, lt-of-lt-of-le}
 use native.Mathlib.Numerals.{add-one}
 use native.Mathlib.Omega.{arith}
 use native.Mathlib.Decide.{decLt}
+use borrow.Author.Needs.{needs}
 use mir.Val.{Fits}
 use mir.Syntax.{w8}
 use lib.ListN.{length, getD, set, take, drop, replicate, length-append, length-take, length-drop, List·getD-append, List·getD-eq-default}
@@ -108,6 +110,12 @@ pub byte-end : (p : List ℕ) (from i b : ℕ) → from + 8 ≤ i → i ≤ from
 byte-end p from i b end most e =
     let all : i - from ≡ 8 = omega arith in
     e ∙ ap (λ (k : ℕ). value (take k (drop from p ++ replicate 8 0))) all
+
+-- so far: b is what the places from `from` up to i write
+abbrev pub Read : List ℕ → ℕ → ℕ → ℕ → Type 0
+Read p from b i = (from ≤ i) × (i ≤ from + 8) × (b ≡ value (take (i - from) (drop from p ++ replicate 8 0)))
+
+pub ruleset reading = (needs, byte-none, byte-next, byte-doubled, byte-fits, byte-end)
 
 -- ---- the record of a pattern
 

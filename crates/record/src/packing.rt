@@ -28,6 +28,33 @@ fn byte(places: &[u8], from: usize) -> u8
     requires { ⌜ ((i : ℕ) → i < length (now places) → getD (now places) i 0 ≤ 1) ⌝ }
     ensures { λ r. ⌜ r ≡ value (take 8 (drop from (now (places .entry)) ++ replicate 8 0)) ⌝ }
 {
+    if from + 8 <= places.len() {
+        return whole_byte(places, from);
+    }
+    last_byte(places, from)
+}
+
+// Where all eight are there, no place is asked whether it is one of them.
+fn whole_byte(places: &[u8], from: usize) -> u8
+    requires { ⌜ (from + 8 ≤ length (now places)) × (length (now places) ≤ 2 * largestSize) ⌝ }
+    requires { ⌜ ((i : ℕ) → i < length (now places) → getD (now places) i 0 ≤ 1) ⌝ }
+    ensures { λ r. ⌜ r ≡ value (take 8 (drop from (now (places .entry)) ++ replicate 8 0)) ⌝ }
+{
+    let mut byte = 0;
+    let mut i = from;
+    while i < from + 8 {
+        byte = 2 * byte + places[i];
+        i += 1;
+    }
+    byte
+}
+
+// The byte in which the pattern ends.
+fn last_byte(places: &[u8], from: usize) -> u8
+    requires { ⌜ (from ≤ length (now places)) × (length (now places) ≤ 2 * largestSize) ⌝ }
+    requires { ⌜ ((i : ℕ) → i < length (now places) → getD (now places) i 0 ≤ 1) ⌝ }
+    ensures { λ r. ⌜ r ≡ value (take 8 (drop from (now (places .entry)) ++ replicate 8 0)) ⌝ }
+{
     let mut byte = 0;
     let mut i = from;
     while i < from + 8 {

@@ -1,7 +1,6 @@
 -- Laws of the loops that look for a fault, and what their answers say of the contents of a slice.
 --     Fault i d f r, found         what it means that r is the first fault of the test f among the d numbers from i on
 --     search-on, search-hit, search-end      a search from place to place: the test passes, the test fails, no place is left
---     fault-within                 the first fault of a list is one of its places, or the end
 --     contents-done, contents-entry, contents-shape      what two searches find, the second for the lower refusal alone, is what is asked of
 --                                  the contents
 -- Assumes nothing.
@@ -78,7 +77,7 @@ module _ (F : Form) (n : ℕ) (p : List ℕ) (r : ℕ) (e : r ≡ firstFault 0 (
   first : Fault 0 (length p) (fits F n p) r
   first = rw e (found 0 (length p) (fits F n p))
 
-  pub fault-within : r ≤ length p
+  fault-within : r ≤ length p
   fault-within = omega (arith, first .within)
 
   both : (i : ℕ) → i < r → (F .entryTest n p i ≡ true) × (F .shapeTest n p i ≡ true)
