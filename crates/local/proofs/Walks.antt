@@ -1,6 +1,8 @@
 -- Laws of the loops that read a pattern from its first place on: `depth`, `head_length`, `before`.
 --     place-..           what a place does to the excess of ones over zeros, and that no step on the way there wraps
---     depth-..           the largest excess so far
+--     Climbed            the excess and the largest excess so far
+--     depth-..           the walk by two places, which raises the largest or not
+--     pair-of-places     what it asks on the way there, for `search`
 --     head-..            the walk has not left the head as long as the excess is above 0
 --     before-..          the patterns are the same so far, and the first difference decides
 -- Of a loop: -begin is what holds at its start, -turn (of depth, -rises and -stays) what one turn makes, -end what it leaves.
@@ -54,27 +56,124 @@ pub ruleset place = (place-fits, place-doubled, place-added, place-small, place-
 
 -- ---- the largest excess
 
-pub depth-begin : (p : List ℕ) → 0 ≡ largest 1 (excess p)
-unfolding largest
-depth-begin p = omega (arith, excess-first p)
-
 largest-next : (f : ℕ → ℕ) (i : ℕ) → largest (suc (i + 1)) f ≡ max (largest (suc i) f) (f (i + 1))
 unfolding largest
 largest-next f i = ap (λ (j : ℕ). max (largest j f) (f (i + 1))) (add-one i)
 
-module _ (n : ℕ) (p : List ℕ) (g : Feasible n p) (i m e : ℕ) (most : m ≡ largest (suc i) (excess p)) (at : e ≡ excess p i) (on : i < length p)
-  where
-    pub depth-rises : m < e + 2 * getD p i 0 - 1 → e + 2 * getD p i 0 - 1 ≡ largest (suc (i + 1)) (excess p)
-    depth-rises h = omega (arith, largest-next (excess p) i, place-turn n p g i on e at)
+-- so far: e is the excess of the first k pairs of places, and m the largest of all prefixes up to there
+pub record Climbed (n : ℕ) (p : List ℕ) (m e k : ℕ) : Type 0 where
+  pub within : k ≤ n
+  pub few : e ≤ 2 * k
+  pub at : e ≡ excess p (2 * k)
+  pub most : m ≡ largest (suc (2 * k)) (excess p)
 
-    pub depth-stays : e + 2 * getD p i 0 - 1 ≤ m → m ≡ largest (suc (i + 1)) (excess p)
-    depth-stays h = omega (arith, largest-next (excess p) i, place-turn n p g i on e at)
+pub depth-begin : (n : ℕ) (p : List ℕ) → Climbed n p 0 0 0
+depth-begin n p =
+    record { within = omega arith; few = omega arith; at = sym (excess-first p); most = unfold largest in omega (arith, excess-first p) }
 
-pub depth-end : (n : ℕ) (p : List ℕ) → Feasible n p → (i m : ℕ) → m ≡ largest (suc i) (excess p) → i ≤ 2 * n → 2 * n ≤ i → m ≡ depth p
+module _ (n : ℕ) (p : List ℕ) (g : Feasible n p) (k : ℕ) (on : k < n) where
+  abbrev first : ℕ
+  first = getD p (2 * k) 0
+
+  abbrev second : ℕ
+  second = getD p (2 * k + 1) 0
+
+  pub first-on : 2 * k < length p
+  first-on = omega (arith, feasible-length n p g)
+
+  pub second-on : 2 * k + 1 < length p
+  second-on = omega (arith, feasible-length n p g)
+
+  module _ (room : length p * 1 < 2 ^ 63) where
+    pub first-fits : Fits w64 (2 * k)
+    first-fits = omega (arith, first-on)
+
+    pub second-fits : Fits w64 (2 * k + 1)
+    second-fits = omega (arith, first-on)
+
+    pub next-fits : Fits w64 (k + 1)
+    next-fits = omega (arith, first-on)
+
+  pub pair-added : Fits w64 (first + second)
+  pair-added = omega (arith, g .places (2 * k) first-on, g .places (2 * k + 1) second-on)
+
+  pub pair-doubled : Fits w64 (2 * (first + second))
+  pair-doubled = omega (arith, g .places (2 * k) first-on, g .places (2 * k + 1) second-on)
+
+  module _ (m e : ℕ) (c : Climbed n p m e k) where
+    module _ (room : length p * 1 < 2 ^ 63) where
+      pub first-raised : Fits w64 (e + 2 * first)
+      first-raised = place-added n p g (2 * k) first-on e (c .few) room
+
+      pub top-raised : Fits w64 (e + 2 * first + second)
+      top-raised = omega (arith, c .few, g .places (2 * k) first-on, g .places (2 * k + 1) second-on, first-on)
+
+      pub pair-raised : Fits w64 (e + 2 * (first + second))
+      pair-raised = omega (arith, c .few, g .places (2 * k) first-on, g .places (2 * k + 1) second-on, first-on)
+
+    one-more : excess p (2 * k + 1) + 1 ≡ e + 2 * first
+    one-more = omega (arith, c .at, excess-next g (2 * k) first-on)
+
+    pair : 2 * k + 1 + 1 ≡ 2 * (k + 1)
+    pair = omega arith
+
+    two-more : excess p (2 * (k + 1)) + 2 ≡ e + 2 * (first + second)
+    two-more = omega (arith, one-more, rw pair at (excess-next g (2 * k + 1) second-on))
+
+    pub top-open : 1 ≤ e + 2 * first + second
+    top-open = omega (arith, one-more)
+
+    pub pair-open : 2 ≤ e + 2 * (first + second)
+    pair-open = omega (arith, two-more)
+
+    -- the larger of the excess at the first of the two and at the second
+    abbrev top : ℕ
+    top = e + 2 * first + second - 1
+
+    largest-more : largest (suc (2 * (k + 1))) (excess p) ≡ max m top
+    largest-more =
+        let far = rw pair at (largest-next (excess p) (2 * k + 1)) in
+        let near = largest-next (excess p) (2 * k) in
+        omega (arith, far, near, add-one (2 * k), c .most, one-more, two-more, g .places (2 * k + 1) second-on)
+
+    climbed-next : (m' : ℕ) → m' ≡ max m top → Climbed n p m' (e + 2 * (first + second) - 2) (k + 1)
+    climbed-next m' h =
+        record {
+          within = omega arith;
+          few = omega (arith, c .few, g .places (2 * k) first-on, g .places (2 * k + 1) second-on);
+          at = omega (arith, two-more);
+          most = h ∙ sym largest-more;
+        }
+
+    pub depth-rises : m < top → Climbed n p top (e + 2 * (first + second) - 2) (k + 1)
+    depth-rises h = climbed-next top (omega arith)
+
+    pub depth-stays : top ≤ m → Climbed n p m (e + 2 * (first + second) - 2) (k + 1)
+    depth-stays h = climbed-next m (omega arith)
+
+pub depth-end : (n : ℕ) (p : List ℕ) → Feasible n p → (k m e : ℕ) → Climbed n p m e k → n ≤ k → m ≡ depth p
 unfolding depth excess
-depth-end n p g i m most l h =
-    let end : i ≡ length p = omega (arith, feasible-length n p g) in
-    most ∙ ap (λ (j : ℕ). largest (suc j) (excess p)) end
+depth-end n p g k m e c h =
+    let end : 2 * k ≡ length p = omega (arith, feasible-length n p g, c .within) in
+    c .most ∙ ap (λ (j : ℕ). largest (suc j) (excess p)) end
+
+-- what a step over two places asks
+pub ruleset pair-of-places = (
+  place-fits,
+  place-doubled,
+  first-on,
+  second-on,
+  first-fits,
+  second-fits,
+  next-fits,
+  pair-added,
+  pair-doubled,
+  first-raised,
+  top-raised,
+  pair-raised,
+  top-open,
+  pair-open,
+)
 
 -- ---- the head
 

@@ -1,24 +1,18 @@
--- `local::depth` meets its contract. The invariant: the excess is that of the first i places, and the largest is that of all prefixes so far.
+-- `local::depth` meets its contract. The invariant: the excess is that of the first 2k places, and the largest is that of all prefixes so far.
 -- Assumes nothing.
-use mathlib.Core.Path.{_≡_}
-use Prim.Native.Nat.{suc, _-_, _*_, _≤_}
-use lib.ListN.{length}
+use Prim.Native.Nat.{_-_}
 use borrow.Author.Needs.{needs}
-use Rattle.shape.specs.Number.{largest as largestOf}
-use Rattle.shape.proofs.Excess.{excess as excessOf, excess-first}
-use Rattle.shape.proofs.Patterns.{feasible-length}
-use Rattle.local.proofs.Walks.{place, depth-begin, depth-rises, depth-stays, depth-end}
+use Rattle.local.proofs.Walks.{Climbed, pair-of-places, depth-begin, depth-rises, depth-stays, depth-end}
 use Rattle.local.proofs.depth.Statement.{statement}
 use Rattle.local.proofs.depth.Tie as tie
 
-ruleset turn = (needs, place, feasible-length, excess-first, depth-begin, depth-rises, depth-stays, depth-end)
+ruleset turn = (needs, pair-of-places, depth-begin, depth-rises, depth-stays, depth-end)
 
 abbrev Inv-loop : tie.InvT-loop
-Inv-loop size places largest₀ excess₀ i₀ largest excess i =
-    (length places ≡ 2 * size) × (i ≤ 2 * size) × (excess ≤ i) × (excess ≡ excessOf places i) × (largest ≡ largestOf (suc i) (excessOf places))
+Inv-loop size places largest₀ excess₀ k₀ largest excess k = Climbed size places largest excess k
 
 abbrev μ-loop : tie.MeasureT-loop
-μ-loop size places largest₀ excess₀ i₀ largest excess i = 2 * size - i
+μ-loop size places largest₀ excess₀ k₀ largest excess k = size - k
 
 pub depth-spec : {M : Type 1} → statement M
 depth-spec =
@@ -28,19 +22,37 @@ depth-spec =
     μ-loop
     -- loop-holds
     (λ c. search turn)
-    -- mul-loop
+    -- mul-first
     (λ c. search turn)
-    -- shared-slice-read-excess
+    -- shared-slice-read-first
     (λ c. search turn)
-    -- cast-excess
+    -- cast-first
     (λ c. search turn)
-    -- mul-excess
+    -- mul-second
+    (λ c. search turn)
+    -- add-second
+    (λ c. search turn)
+    -- shared-slice-read-second
+    (λ c. search turn)
+    -- cast-second
+    (λ c. search turn)
+    -- mul-top
+    (λ c. search turn)
+    -- add-top
+    (λ c. search turn)
+    -- add-top-2
+    (λ c. search turn)
+    -- sub-top
     (λ c. search turn)
     -- add-excess
     (λ c. search turn)
+    -- mul-excess
+    (λ c. search turn)
+    -- add-excess-2
+    (λ c. search turn)
     -- sub-excess
     (λ c. search turn)
-    -- add-i
+    -- add-k
     (λ c. search turn)
     -- loop-less
     (λ c. search turn)
