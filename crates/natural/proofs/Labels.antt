@@ -6,19 +6,23 @@
 --     stacked q w r        the first w entries of q, the last of them first, and then r
 --     Labelling n p q w k i      the pattern p is read from place i on: its trees' entries stand in q from k on, and the labels of their zeros
 --                                wait at the front, w of them. The last tree's 0 is dropped; its label would be n + 1
---     labelling-begin, labelling-zero, labelling-one, labelling-end      so it is at the start, after a 0, after a 1, and what it is at the end
---     room                 that what a turn reads and writes is there, and that what it counts fits 64 bits
+--     labelling-begin, labelling-end      so it is at the start, and what it is at the end
+--     labelling-zero, labelling-one       so it is after a 0 and after a 1
+--     by-place, labelling-place           what holds at a 0 and at a 1 holds of the place, and so it is after a turn
+--     room                 that what a turn reads and writes is there, and that what it reckons fits
 -- Assumes nothing.
 use mathlib.Core.Path.{_≡_, refl, sym, ap, _∙_, subst}
 use mathlib.Core.List.{List, [], _∷_, _++_, append-nil, reverseAux, reverseAux-append}
 use Prim.Native.Nat.{ℕ, suc, _+_, _-_, _*_, _≤_, _<_}
-use native.Mathlib.Nat.{le-refl, add-zero, sub-zero, sub-self}
+use native.Mathlib.Nat.{le-refl, add-zero, sub-zero, sub-self, mul-le-mul-right}
+use native.Mathlib.Decide.{decLe}
 use native.Mathlib.Numerals.{add-one}
 use native.Mathlib.Omega.{arith}
 use lib.ListN.{length, getD, set, take, drop, length-set, drop-of-length-le, length-reverseAux}
 use lib.Seq.{take-suc, take-set-le, drop-set-lt, getD-set-same}
-use mir.Syntax.{w64}
+use mir.Syntax.{w16, w64}
 use mir.Val.{Fits}
+use mir.Facts.{fits-widen}
 use Rattle.catalan.specs.Count.{largestSize}
 use Rattle.shape.specs.Tree.{Tree, empty, node, size, permutationFrom, permutation}
 use Rattle.shape.specs.Form.{count, Feasible, forest, joined, patternTree}
@@ -126,11 +130,14 @@ module _ (n : ℕ) (p : List ℕ) (g : Feasible n p) (q : List ℕ) (w k i : ℕ
       let one : forest p ≡ patternTree p ∷ [] = ap forest (sym (pattern-of n p g .0)) ∙ forest-last (patternTree p) in
       rw (no-entry, no-label, first, one, append-nil) at (m .entries)
 
-  pub waiting-within : w ≤ k
+  waiting-within : w ≤ k
   waiting-within = omega (arith, zeros-within g i (m .word), m .within)
 
-  pub waiting-fits : n ≤ largestSize → Fits w64 (w + 1)
-  waiting-fits small = record { fits = omega (arith, waiting-within, m .within) }
+  pub waiting-fits : n ≤ largestSize → (x y : ℕ) → Fits w64 (w - x + (1 - y))
+  waiting-fits small x y = record { fits = omega (arith, waiting-within, m .within) }
+
+  pub within-fits : n ≤ largestSize → (x y : ℕ) → x + y < length q → Fits w64 (x + y)
+  within-fits small x y h = record { fits = omega (arith, m .long) }
 
   pub index-fits : n ≤ largestSize → (x : ℕ) → x < length q → Fits w64 (x * 2)
   index-fits small x h = record { fits = omega (arith, m .long) }
@@ -154,10 +161,10 @@ module _ (n : ℕ) (p : List ℕ) (g : Feasible n p) (q : List ℕ) (w k i : ℕ
       label-left : w < k
       label-left = omega (arith, zeros-within g (i - 1) word-zero, m .within)
 
-      pub label-room : w < length q
+      label-room : w < length q
       label-room = omega (arith, label-left, m .within, m .long)
 
-      pub labelling-zero : Labelling n p (set q w (k - w)) (w + 1) k (i - 1)
+      labelling-zero : Labelling n p (set q w (k - w)) (w + 1) k (i - 1)
       labelling-zero =
           let x = k - w in
           let next : suc (k - (w + 1)) ≡ x = omega (arith, label-left) in
@@ -182,7 +189,7 @@ module _ (n : ℕ) (p : List ℕ) (g : Feasible n p) (q : List ℕ) (w k i : ℕ
       unfolding forest
       trees-one = rw here-one
 
-      pub label-waits : 1 ≤ w
+      label-waits : 1 ≤ w
       unfolding count
       label-waits = omega (arith, rw here-one at (zeros-behind g (i - 1)), word-zeros (m .word), word-ones (m .word))
 
@@ -191,13 +198,13 @@ module _ (n : ℕ) (p : List ℕ) (g : Feasible n p) (q : List ℕ) (w k i : ℕ
           let next : w ≡ suc (w - 1) = omega (arith, label-waits) in
           rw here-one (one-next (subst (λ (e : ℕ). Word e (n - k) (drop i p)) next (m .word)))
 
-      pub entry-left : 1 ≤ k
+      entry-left : 1 ≤ k
       entry-left = omega (arith, waiting-within, label-waits)
 
-      pub waiting-room : w - 1 < length q
+      waiting-room : w - 1 < length q
       waiting-room = omega (arith, waiting-within, entry-left, m .within, m .long)
 
-      pub entry-room : k - 1 < length q
+      entry-room : k - 1 < length q
       entry-room = omega (arith, entry-left, m .within, m .long)
 
       labels-one : (x : ℕ) (v : List ℕ) → x ∷ v ≡ closing (k - w) (forest (drop i p)) → 1 ≤ length v
@@ -206,7 +213,7 @@ module _ (n : ℕ) (p : List ℕ) (g : Feasible n p) (q : List ℕ) (w k i : ℕ
           let base : k - 1 - (w - 1) ≡ k - w = omega (arith, label-waits) in
           rw (trees-one, base, m .entries) (joined-labels (k - w) x v (forest (drop i p)) some h)
 
-      pub labelling-one : Labelling n p (set q (k - 1) (getD q (w - 1) 0)) (w - 1) (k - 1) (i - 1)
+      labelling-one : Labelling n p (set q (k - 1) (getD q (w - 1) 0)) (w - 1) (k - 1) (i - 1)
       labelling-one =
           let x = getD q (w - 1) 0 in
           let taken = popped q w (suc n ∷ []) label-waits (omega (arith, waiting-room)) ∙ m .waiting in
@@ -221,4 +228,107 @@ module _ (n : ℕ) (p : List ℕ) (g : Feasible n p) (q : List ℕ) (w k i : ℕ
             entries = written-before q k x entry-left (omega (arith, entry-room)) ∙ more;
           }
 
-pub ruleset room = (waiting-within, waiting-fits, waiting-room, index-fits, label-room, label-waits, entry-left, entry-room)
+    -- What holds at a 0 and at a 1 holds of the place. A turn reckons with the place and does not ask which it is.
+    by-place : (P : ℕ → Type 0) → (getD p (i - 1) 0 ≡ 0 → P 0) → ((getD p (i - 1) 0 ≡ 0 → ⊥) → P 1) → P (getD p (i - 1) 0)
+    by-place P at-zero at-one =
+        elim (decLe 1 (getD p (i - 1) 0)) [
+          | yes h ↦
+              let one : getD p (i - 1) 0 ≡ 1 = omega (arith, g .places (i - 1) place-within) in
+              rw one (at-one (λ z. omega arith))
+          | no h ↦ let none : getD p (i - 1) 0 ≡ 0 = omega arith in rw none (at-zero none)
+        ]
+
+    pub place-most : getD p (i - 1) 0 ≤ 1
+    place-most = omega (arith, g .places (i - 1) place-within)
+
+    pub other-most : (x : ℕ) → 1 - x ≤ 1
+    other-most x = omega arith
+
+    pub place-fits : Fits w64 (getD p (i - 1) 0)
+    place-fits = record { fits = omega (arith, place-most) }
+
+    pub place-waits : getD p (i - 1) 0 ≤ w
+    place-waits = by-place (λ (x : ℕ). x ≤ w) (λ z. omega arith) label-waits
+
+    pub place-left : getD p (i - 1) 0 ≤ k
+    place-left = omega (arith, place-waits, waiting-within)
+
+    pub taken-room : w - getD p (i - 1) 0 < length q
+    taken-room = by-place (λ (x : ℕ). w - x < length q) (λ z. omega (arith, label-room z)) waiting-room
+
+    pub gap-left : w - getD p (i - 1) 0 ≤ k - getD p (i - 1) 0
+    gap-left = omega (arith, place-waits, waiting-within)
+
+    -- where and what a turn writes at the place x
+    abbrev where-written : ℕ → ℕ
+    where-written x = w - x + x * (k - x - (w - x))
+
+    abbrev what-written : ℕ → ℕ
+    what-written x = x * getD q (w - x) 0 + (1 - x) * (k - x - (w - x))
+
+    pub gap-fits : n ≤ largestSize → (x y : ℕ) → x ≤ 1 → Fits w64 (x * (k - y - (w - y)))
+    gap-fits small x y h = record { fits = omega (arith, mul-le-mul-right (k - y - (w - y)) h, m .within) }
+
+    -- a label that waits is a number of 16 bits, as all that stand in the slice
+    module _ (short : (x : ℕ) → Fits w16 (getD q x 0)) where
+      pub label-widens : (x : ℕ) → Fits w64 (getD q x 0)
+      label-widens x = fits-widen tt (short x)
+
+      pub taken-fits : (x y : ℕ) → x ≤ 1 → Fits w64 (x * getD q y 0)
+      taken-fits x y h = record { fits = omega (arith, mul-le-mul-right (getD q y 0) h, short y .fits) }
+
+      pub written-fits : n ≤ largestSize → Fits w16 (what-written (getD p (i - 1) 0))
+      written-fits small =
+          by-place
+          (λ (x : ℕ). Fits w16 (what-written x))
+          (λ z. record { fits = omega (arith, m .within) })
+          (λ o. record { fits = omega (arith, short (w - 1) .fits) })
+
+      pub written-widens : n ≤ largestSize → Fits w64 (what-written (getD p (i - 1) 0))
+      written-widens small = fits-widen tt (written-fits small)
+
+    last-room : where-written (getD p (i - 1) 0) < length q
+    last-room =
+        by-place
+        (λ (x : ℕ). where-written x < length q)
+        (λ z. omega (arith, label-room z))
+        (λ o. omega (arith, entry-room o, waiting-within, label-waits o))
+
+    pub write-room
+        : (x : ℕ) → x ≤ getD p (i - 1) 0 → w - getD p (i - 1) 0 + x * (k - getD p (i - 1) 0 - (w - getD p (i - 1) 0)) < length q
+    write-room x h = omega (arith, mul-le-mul-right (k - getD p (i - 1) 0 - (w - getD p (i - 1) 0)) h, last-room)
+
+    abbrev Turned : ℕ → Type 0
+    Turned x = Labelling n p (set q (where-written x) (what-written x)) (w - x + (1 - x)) (k - x) (i - 1)
+
+    pub labelling-place : Turned (getD p (i - 1) 0)
+    labelling-place =
+        by-place
+        Turned
+        (λ z.
+        let at : where-written 0 ≡ w = omega arith in
+        let label : what-written 0 ≡ k - w = omega arith in
+        rw (at, label, sub-zero w, sub-zero k) (labelling-zero z))
+        (λ o.
+        let at : where-written 1 ≡ k - 1 = omega (arith, waiting-within, label-waits o) in
+        let label : what-written 1 ≡ getD q (w - 1) 0 = omega arith in
+        rw (at, label, add-zero) (labelling-one o))
+
+pub ruleset room = (
+  waiting-fits,
+  within-fits,
+  index-fits,
+  place-most,
+  other-most,
+  place-fits,
+  place-waits,
+  place-left,
+  taken-room,
+  gap-left,
+  gap-fits,
+  label-widens,
+  taken-fits,
+  written-fits,
+  written-widens,
+  write-room,
+)

@@ -5,24 +5,36 @@
 --     written-tree            and what that puts before the places is the tree's pattern
 --     Writing n q p m k i     of the permutation q, the ones of the entries from k on and the zeros of the labels above m are written, and
 --                             they are the places of p from i on
---     writing-begin, writing-zero, writing-one, writing-end      so it is at the start, after a 0 and after a 1, and what is written in the end
---     room                    that what a turn reads and writes is there, and that an entry fits 64 bits
+--     writing-begin, writing-end        so it is at the start, and what is written in the end
+--     writing-zero, writing-one         so it is after a 0 and after a 1
+--     by-due, writing-place             what holds at a 0 and at a 1 holds of the place due, and so it is after a turn
+--     room                    that what a turn reads and writes is there, and that what it reckons fits
 -- Assumes nothing.
 use mathlib.Core.Path.{_≡_, sym, ap, _∙_}
+use mathlib.Core.Bool.{Bool, true, false}
 use mathlib.Core.List.{List, [], _∷_, _++_, append-nil}
 use Prim.Native.Nat.{ℕ, zero, suc, _+_, _-_, _*_, _≤_, _<_, min}
-use native.Mathlib.Nat.{le-refl, sub-self}
+use native.Mathlib.Nat.{le-refl, sub-self, sub-zero}
 use native.Mathlib.Decide.{decLe}
 use native.Mathlib.Omega.{arith}
 use lib.ListN.{length, getD, set, drop, replicate, length-set, drop-of-length-le}
-use mir.Syntax.{w64}
-use mir.Val.{Fits}
+use lib.Dec.{ltb}
+use mir.Syntax.{w8, w64}
+use mir.Val.{Fits, boolByte}
+use borrow.Author.Tests.{le-ltb, lt-ltb}
 use Rattle.catalan.specs.Count.{largestSize}
 use Rattle.shape.specs.Tree.{Tree, empty, node, size, pattern, permutationFrom, permutation}
 use Rattle.shape.specs.Form.{TreePermutation, permutationTree}
 use Rattle.shape.proofs.Writing.{from-before, written-before}
 use Rattle.shape.proofs.Patterns.{pattern-node}
 use Rattle.shape.proofs.Permutations.{permutation-node, permutation-of}
+
+pub due-most : (b : Bool) → boolByte b ≤ 1
+due-most true = omega arith
+due-most false = omega arith
+
+pub due-fits : (b : Bool) → Fits w8 (boolByte b)
+due-fits b = record { fits = omega (arith, due-most b) }
 
 module _ (n : ℕ) where
   -- The labels not below an entry have their zeros behind its 1.
@@ -172,10 +184,10 @@ module _ (n : ℕ) (q : List ℕ) (f : TreePermutation n q) where
       place-written x = written-before p i x low (omega (arith, place-within)) ∙ ap (λ (v : List ℕ). x ∷ v) (w .places)
 
       module _ (reached : getD q (k - 1) 0 ≤ m) where
-        pub label-left : 1 ≤ m
+        label-left : 1 ≤ m
         label-left = omega (arith, f .least (k - 1) entry-within)
 
-        pub writing-zero : Writing n q (set p (i - 1) 0) (m - 1) k (i - 1)
+        writing-zero : Writing n q (set p (i - 1) 0) (m - 1) k (i - 1)
         writing-zero =
             let next : suc (m - 1) ≡ m = omega (arith, label-left) in
             record {
@@ -191,7 +203,7 @@ module _ (n : ℕ) (q : List ℕ) (f : TreePermutation n q) where
         behind-entry : unplaced n (drop (k - 1) q) ≡ m
         behind-entry = omega (arith, unplaced-entry k entry-left (w .within), w .most, w .least)
 
-        pub writing-one : Writing n q (set p (i - 1) 1) m (k - 1) (i - 1)
+        writing-one : Writing n q (set p (i - 1) 1) m (k - 1) (i - 1)
         writing-one =
             let same = sym (unplaced-entry k entry-left (w .within)) ∙ behind-entry in
             record {
@@ -203,4 +215,24 @@ module _ (n : ℕ) (q : List ℕ) (f : TreePermutation n q) where
               places = place-written 1 ∙ rw (from-entry k entry-left (w .within)) (sym (written-one n (getD q (k - 1) 0) (drop k q) m same));
             }
 
-pub ruleset room = (place-within, entry-left, entry-within, entry-fits, label-left)
+      -- What holds where a 0 is due and where a 1 is holds of the place due. A turn reckons with that place and does not ask which it is.
+      by-due : (P : ℕ → Type 0) → (getD q (k - 1) 0 ≤ m → P 0) → (m < getD q (k - 1) 0 → P 1) → P (boolByte (ltb m (getD q (k - 1) 0)))
+      by-due P at-zero at-one =
+          elim (decLe (getD q (k - 1) 0) m) [
+            | yes h ↦ rw (le-ltb m (getD q (k - 1) 0) h) (at-zero h)
+            | no h ↦ let above : m < getD q (k - 1) 0 = omega arith in rw (lt-ltb m (getD q (k - 1) 0) above) (at-one above)
+          ]
+
+      pub due-left : (b : Bool) → boolByte b ≤ k
+      due-left b = omega (arith, due-most b, entry-left)
+
+      pub label-due : 1 - boolByte (ltb m (getD q (k - 1) 0)) ≤ m
+      label-due = by-due (λ (x : ℕ). 1 - x ≤ m) label-left (λ h. omega arith)
+
+      abbrev Turned : ℕ → Type 0
+      Turned x = Writing n q (set p (i - 1) x) (m - (1 - x)) (k - x) (i - 1)
+
+      pub writing-place : Turned (boolByte (ltb m (getD q (k - 1) 0)))
+      writing-place = by-due Turned (λ h. rw (sub-zero k) (writing-zero h)) (λ h. rw (sub-zero m) (writing-one h))
+
+pub ruleset room = (place-within, entry-left, entry-within, entry-fits, due-most, due-fits, due-left, label-due)

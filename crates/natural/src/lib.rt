@@ -18,21 +18,27 @@ ghost use Rattle.shape.specs.Form.{permutationTree};
 ghost use Rattle.shape.specs.Number.{fewerLeft, leftNodes, naturalNumber, naturalTree};
 ghost use Rattle.natural.specs.Parts.{Part};
 
-// The trees with a smaller left part come first; the left's number counts in steps of as many as there are right parts.
+// The trees with a smaller left part come first; the left's number counts in steps of as many as there are right parts. Half of all parts
+// are empty, and for those there is no call; a tree of one node is alone of its size.
 pub fn number(catalans: &[u64; 37], base: u16, entries: &[u16]) -> u64
     requires { ⌜ (now catalans ≡ theTable) × Part base (now entries) ⌝ }
     ensures { λ r. ⌜ r ≡ naturalNumber (permutationTree (now (entries .entry))) ⌝ }
 {
-    if entries.len() == 0 {
+    if entries.len() < 2 {
         return 0;
     }
     let root = entries[0];
     let right = (root - base) as usize;
+    if right == 1 {
+        return number(catalans, root, &entries[1..]);
+    }
+    let fewer = fewer_left(catalans, entries.len() - 1, right - 1);
     let left_number = number(catalans, base, &entries[1..right]);
+    if right == entries.len() {
+        return fewer + left_number;
+    }
     let right_number = number(catalans, root, &entries[right..]);
-    fewer_left(catalans, entries.len() - 1, right - 1)
-        + left_number * catalans[entries.len() - right]
-        + right_number
+    fewer + left_number * catalans[entries.len() - right] + right_number
 }
 
 // How many trees with so many nodes besides the root have fewer than `left` of them on the left.
@@ -56,6 +62,7 @@ struct Split {
 }
 
 // The number undone: what the trees with a smaller left part leave of it is the left's number in steps of the right parts, and the right's.
+// Where one part is empty, what is left is the other's number, so that there is nothing to divide.
 pub fn shape(catalans: &[u64; 37], base: u16, number: u64, entries: &mut [u16])
     requires { ⌜ (now catalans ≡ theTable) × (base + length (now entries) ≤ largestSize) × (number < C (length (now entries))) ⌝ }
     ensures { λ _. ⌜ now (entries .exit) ≡ permutationFrom base (naturalTree (length (now (entries .entry))) number) ⌝ }
@@ -65,10 +72,21 @@ pub fn shape(catalans: &[u64; 37], base: u16, number: u64, entries: &mut [u16])
     }
     let others = entries.len() - 1;
     let split = left_nodes(catalans, others, number);
-    let rights = catalans[others - split.left];
     let right = split.left + 1;
     let root = base + right as u16;
     entries[0] = root;
+    if others == 0 {
+        return;
+    }
+    if split.left == 0 {
+        shape(catalans, root, split.rest, &mut entries[right..]);
+        return;
+    }
+    if split.left == others {
+        shape(catalans, base, split.rest, &mut entries[1..right]);
+        return;
+    }
+    let rights = catalans[others - split.left];
     shape(catalans, base, split.rest / rights, &mut entries[1..right]);
     shape(catalans, root, split.rest % rights, &mut entries[right..]);
 }

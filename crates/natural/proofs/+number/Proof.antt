@@ -1,14 +1,17 @@
 -- `natural::number` meets its contract. The measure is how many entries the part has. What is known where the part is not empty
 -- (`rooted`), and where the numbers of its parts are known (`whole`), is said once.
 -- Assumes nothing.
-use Prim.Native.Nat.{ℕ, _<_}
+use mathlib.Core.Path.{_≡_}
+use Prim.Native.Nat.{ℕ, _+_, _<_}
 use native.Mathlib.Omega.{arith}
 use lib.ListN.{length}
 use borrow.Author.Needs.{needs}
 use borrow.Fn.Kinds.{In}
 use borrow.Fn.PlainCycle.{Measures, is, falls, and}
+use Rattle.shape.specs.Form.{permutationTree}
+use Rattle.shape.specs.Number.{naturalNumber}
 use Rattle.natural.proofs.Parts.{Rooted, root, left-part, right-part}
-use Rattle.natural.proofs.Numbers.{number-none, Joined, joined}
+use Rattle.natural.proofs.Numbers.{number-small, number-fits, Joined, joined, right-alone, right-behind, left-alone}
 use Rattle.natural.proofs.number.Reads as reads
 use Rattle.natural.proofs.number.Kinds as kinds
 use Rattle.natural.proofs.+number.Lts-number as lts
@@ -33,12 +36,23 @@ module _ (t : ℕ) where
       → (let given = c .before .before .args in Rooted (given .base) (given .entries .now))
   rooted c = search needs
 
-  whole : (c : lts.After-fewer-left (claims t) (number-at t) reads.Post)
-      → (let right = c .before in
-      let left = right .before .before in
-      let given = left .before .before .before .before .before .args in
-      Joined (given .catalans .now) (given .base) (given .entries .now) (c .fewer-left .result) (left .number .result) (right .number2 .result))
-  whole c = search joined
+  whole : (c : lts.After-number3 (claims t) (number-at t) reads.Post)
+      → (let left = c .before .before .before in
+      let fewer = left .before .before in
+      let given = fewer .before .before .before .before .before .args in
+      Joined (given .catalans .now) (given .base) (given .entries .now) (fewer .fewer-left .result) (left .number2 .result) (c .number3 .result))
+  whole c = let h = rooted (c .before .before .before .before .before .before .before .before) in search joined
+
+  -- the same with no right part
+  left-whole : (c : lts.Then3 (claims t) (number-at t) reads.Post)
+      → (let left = c .before in
+      let fewer = left .before .before in
+      let given = fewer .before .before .before .before .before .args in
+      fewer .fewer-left .result + left .number2 .result ≡ naturalNumber (permutationTree (given .entries .now)))
+  left-whole c =
+      let left = c .before in
+      let fewer = left .before .before in
+      left-alone (rooted (fewer .before .before .before)) (c .if3 .taken) (fewer .fewer-left .ensures) (left .number2 .ensures)
 
 pub +number-spec : {M : Type 1} → statement M
 +number-spec =
@@ -47,7 +61,7 @@ pub +number-spec : {M : Type 1} → statement M
     (number-at t)
     reads.Post
     -- returns
-    (λ c. search number-none)
+    (λ c. search number-small)
     -- shared-slice-read-root
     (λ c. search needs)
     -- sub-right
@@ -55,40 +69,54 @@ pub +number-spec : {M : Type 1} → statement M
     -- cast-right
     (λ c. omega (arith, root (rooted t (c .before))))
     -- sub-number
-    (λ c. omega (arith, root (rooted t (c .before))))
+    (λ c. search needs)
     -- part-number-start
-    (λ c. omega (arith, root (rooted t (c .before))))
+    (λ c. search needs)
     -- part-number-end
-    (λ c. omega (arith, root (rooted t (c .before))))
+    (λ c. search needs)
     -- number-requires
-    (λ c κs. let h = rooted t (c .before .before) in (omega (arith, root h), (search needs, left-part h)))
-    -- mul-number
-    (λ c. omega (arith, root (rooted t (c .before .before .before))))
+    (λ c κs. let h = rooted t (c .before .before .before) in (omega (arith, root h), (search needs, right-behind h (c .before .if2 .taken))))
+    -- returns-2
+    (λ c. right-alone (rooted t (c .before .before .before .before)) (c .before .before .if2 .taken) (c .number .ensures))
+    -- sub-fewer-left
+    (λ c. search needs)
+    -- sub-fewer-left-2
+    (λ c. omega (arith, root (rooted t (c .before .before))))
+    -- fewer-left-requires
+    (λ c κs. let x = root (rooted t (c .before .before)) in search needs)
     -- sub-number-2
     (λ c. omega (arith, root (rooted t (c .before .before .before))))
     -- part-number-start-2
     (λ c. omega (arith, root (rooted t (c .before .before .before))))
     -- part-number-end-2
-    (λ c. search needs)
+    (λ c. omega (arith, root (rooted t (c .before .before .before))))
     -- number-requires-2
-    (λ c κs. let h = rooted t (c .before .before .before .before) in (omega (arith, root h), (search needs, right-part h)))
-    -- sub-fewer-left
+    (λ c κs. let h = rooted t (c .before .before .before .before) in (omega (arith, root h), (search needs, left-part h)))
+    -- add-result
+    (λ c. let h = rooted t (c .before .before .before .before .before .before) in omega (arith, left-whole t c, number-fits (h .part)))
+    -- returns-3
+    (λ c. left-whole t c)
+    -- mul-number
+    (λ c. omega (arith, root (rooted t (c .before .before .before .before .before .before))))
+    -- sub-number-3
+    (λ c. omega (arith, root (rooted t (c .before .before .before .before .before .before))))
+    -- part-number-start-3
+    (λ c. omega (arith, root (rooted t (c .before .before .before .before .before .before))))
+    -- part-number-end-3
     (λ c. search needs)
-    -- sub-fewer-left-2
-    (λ c. omega (arith, root (rooted t (c .before .before .before .before .before))))
-    -- fewer-left-requires
-    (λ c κs. let x = root (rooted t (c .before .before .before .before .before)) in search needs)
+    -- number-requires-3
+    (λ c κs. let h = rooted t (c .before .before .before .before .before .before .before) in (omega (arith, root h), (search needs, right-part h)))
     -- sub-result
-    (λ c. omega (arith, root (rooted t (c .before .before .before .before .before .before))))
+    (λ c. omega (arith, root (rooted t (c .before .before .before .before .before .before .before .before))))
     -- mul-result
-    (λ c. omega (arith, root (rooted t (c .before .before .before .before .before .before))))
+    (λ c. omega (arith, root (rooted t (c .before .before .before .before .before .before .before .before))))
     -- element-copy-out-result
     (λ c. omega (arith, whole t c))
     -- mul-result-2
     (λ c. omega (arith, whole t (c .before)))
-    -- add-result
-    (λ c. omega (arith, whole t (c .before)))
     -- add-result-2
     (λ c. omega (arith, whole t (c .before)))
-    -- returns-2
+    -- add-result-3
+    (λ c. omega (arith, whole t (c .before)))
+    -- returns-4
     (λ c. whole t (c .before) .whole))

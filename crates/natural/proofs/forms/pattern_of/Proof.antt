@@ -2,11 +2,11 @@
 -- labels above `label`.
 -- Assumes nothing.
 use borrow.Author.Needs.{needs}
-use Rattle.natural.proofs.Zeros.{Writing, room, writing-begin, writing-zero, writing-one, writing-end}
+use Rattle.natural.proofs.Zeros.{Writing, room, writing-begin, writing-place, writing-end}
 use Rattle.natural.proofs.forms.pattern_of.Statement.{statement}
 use Rattle.natural.proofs.forms.pattern_of.Tie as tie
 
-ruleset turn = (needs, room, writing-begin, writing-zero, writing-one, writing-end)
+ruleset turn = (needs, room, writing-begin, writing-place, writing-end)
 
 abbrev Inv-loop : tie.InvT-loop
 Inv-loop size entries places₀ label₀ k₀ i₀ places label k i = Writing size entries places label k i
@@ -26,29 +26,29 @@ pattern-of-spec =
     (λ c. search turn)
     -- sub-i
     (λ c. search turn)
-    -- sub-if1
+    -- sub-one
     (λ c. search turn)
-    -- mul-if1
+    -- mul-one
     (λ c. search turn)
-    -- shared-slice-read-if1
+    -- shared-slice-read-one
     (λ c. search turn)
-    -- cast-if1
+    -- cast-one
+    (λ c. search turn)
+    -- cast-one-2
+    (λ c. search turn)
+    -- cast-places
+    (λ c. search turn)
+    -- slice-write-places
     (λ c. search turn)
     -- sub-label
     (λ c. search turn)
-    -- slice-write-places
+    -- sub-label-2
+    (λ c. search turn)
+    -- sub-k
     (λ c. search turn)
     -- loop-less
     (λ c. search turn)
     -- loop-again
-    (λ c. search turn)
-    -- sub-k
-    (λ c. search turn)
-    -- slice-write-places-2
-    (λ c. search turn)
-    -- loop-less-2
-    (λ c. search turn)
-    -- loop-again-2
     (λ c. search turn)
     -- same-length
     (λ c. search turn)
