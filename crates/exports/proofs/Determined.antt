@@ -5,6 +5,7 @@
 use mathlib.Core.Logic.{Iff·rfl}
 use mathlib.Core.List.{List}
 use Prim.Native.Nat.{ℕ}
+use lib.ListN.{length}
 use denote.Ref.{now}
 use Rattle.shape.specs.Form.{patterns, permutations}
 use Rattle.shape.specs.Numbering.{local, natural}
@@ -13,11 +14,14 @@ use Rattle.shape.specs.Calls.{checkReply, numberReply, shapeReply, shapeEnd, su
 use Rattle.shape.specs.Calls.{conversionReply, conversionEnd}
 use Rattle.pattern.specs.Calls.{successorChange, predecessorChange, depthReply}
 use Rattle.record.specs.Calls.{writeReply, writeEnd, readReply, readEnd}
+use Rattle.lines.specs.declared.Sheet.{Sheet}
+use Rattle.lines.specs.Calls.{openSheet, fillEnd}
 use Rattle.exports.specs.declared.Reply.{Reply}
 use Rattle.exports.specs.declared.patterns.Part.{Part}
 use Rattle.exports.specs.declared.runs.Started.{Started}
 use Rattle.exports.specs.declared.runs.Stepped.{Stepped}
-use Rattle.exports.specs.Crossing.{replied, headTold, laterTold, startTold, stepTold}
+use Rattle.exports.specs.declared.sheets.Filled.{Filled}
+use Rattle.exports.specs.Crossing.{replied, headTold, laterTold, startTold, stepTold, fillTold}
 use Rattle.exports.proofs.patterns.spire_pattern_check.Reads as pattern-check
 use Rattle.exports.proofs.patterns.spire_pattern_number.Reads as pattern-number
 use Rattle.exports.proofs.patterns.spire_pattern_shape.Reads as pattern-shape
@@ -37,6 +41,8 @@ use Rattle.exports.proofs.runs.spire_run_start.Reads as run-start
 use Rattle.exports.proofs.runs.spire_run_step.Reads as run-step
 use Rattle.exports.proofs.records.spire_record_write.Reads as record-write
 use Rattle.exports.proofs.records.spire_record_read.Reads as record-read
+use Rattle.exports.proofs.sheets.spire_sheet_open.Reads as sheet-open
+use Rattle.exports.proofs.sheets.spire_sheet_fill.Reads as sheet-fill
 
 pub pattern-check-determined : Determined Reply pattern-check.Pre pattern-check.Post (λ κ r s. r)
     (λ κ (n, (p, _)). replied (checkReply patterns n (now p)))
@@ -121,3 +127,10 @@ record-write-determined = determined (λ κ a. tt) (λ κ a r s. exact-both Iff�
 pub record-read-determined : Determined (Reply × List ℕ) record-read.Pre record-read.Post (λ κ r (_, (s, _)). (r, now s))
     (λ κ (p, (q, _)). (replied (readReply (now p) (now q)), readEnd (now p) (now q)))
 record-read-determined = determined (λ κ a. tt) (λ κ a r s. exact-both Iff·rfl Iff·rfl)
+
+pub sheet-open-determined : Determined Sheet sheet-open.Pre sheet-open.Post (λ κ r s. r) (λ κ (p, _). openSheet (now p))
+sheet-open-determined = determined (λ κ a. tt) (λ κ a r s. Iff·rfl)
+
+pub sheet-fill-determined : Determined (Filled × List ℕ) sheet-fill.Pre sheet-fill.Post (λ κ r (_, (s, _)). (r, now s))
+    (λ κ (t, (p, _)). (fillTold t (length (now p)), fillEnd t (now p)))
+sheet-fill-determined = determined (λ κ a. tt) (λ κ a r s. exact-both Iff·rfl Iff·rfl)

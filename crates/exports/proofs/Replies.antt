@@ -5,6 +5,7 @@
 --     handed-crosses, ended-crosses, stopped-crosses      how a step went
 --     reply-crosses                             any reply that a call's contract gives
 --     start-crosses, step-crosses               the whole answer of a start and of a step
+--     fill-crosses                              and of a sheet's next piece
 --     told                                      these, for `search`
 -- Assumes nothing.
 use mathlib.Core.Path.{_≡_, ap, _∙_}
@@ -21,10 +22,13 @@ use Rattle.run.specs.declared.Progress.{Progress}
 use Rattle.run.specs.declared.Progress.the-variants.{Handed, Done as AtEnd, Refused as Stopped}
 use Rattle.run.specs.declared.Run.{Run}
 use Rattle.run.specs.Calls.{progressReply, startReply, startRun, stepReply, stepRun, stepPlaces, stepChange}
+use Rattle.lines.specs.declared.Sheet.{Sheet}
+use Rattle.lines.specs.Calls.{fillReply, fillSheet}
 use Rattle.exports.specs.declared.Reply.{Reply as Crossed}
 use Rattle.exports.specs.declared.runs.Started.{Started}
 use Rattle.exports.specs.declared.runs.Stepped.{Stepped}
-use Rattle.exports.specs.Crossing.{replied, startTold, stepTold}
+use Rattle.exports.specs.declared.sheets.Filled.{Filled}
+use Rattle.exports.specs.Crossing.{replied, startTold, stepTold, fillTold}
 
 abbrev numbers : ℕ → ℕ → Crossed
 numbers f k = record { refusal = f; value = k }
@@ -70,6 +74,11 @@ module _ (t : Crossed) (y : Reply) (s : Run) (e : t ≡ replied y) where
   unfolding replied stepTold
   step-crosses run p c g h q d = rw (e, g, h, q, d)
 
+pub fill-crosses : (t : Crossed) (y : Reply) (s sheet : Sheet) (room : ℕ) → t ≡ replied y → y ≡ fillReply sheet room → s ≡ fillSheet sheet room
+    → _≡_ {A = Filled} (record { refusal = t .refusal; bytes = t .value; sheet = s }) (fillTold sheet room)
+unfolding replied fillTold
+fill-crosses t y s sheet room e g h = rw (e, g, h)
+
 pub ruleset told = (
   needs,
   done-crosses,
@@ -82,4 +91,5 @@ pub ruleset told = (
   reply-crosses,
   start-crosses,
   step-crosses,
+  fill-crosses,
 )

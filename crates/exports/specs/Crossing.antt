@@ -4,6 +4,7 @@
 --     headTold, laterTold      the part that the head is, or the later of two: of which slice, from where, how many places
 --     chosen, readFrom         what a program reads that adds the offset to its own pointer: p and q are what its two slices hold
 --     startTold, stepTold      a start and a step of a run: each has its reply's numbers in the place of an enum
+--     fillTold                 a sheet's next piece, likewise
 -- Assumes nothing.
 use mathlib.Core.List.{List}
 use Prim.Native.Nat.{ℕ, zero, suc}
@@ -12,10 +13,13 @@ use Rattle.shape.specs.Reply.{Reply}
 use Rattle.pattern.specs.Calls.{headPart, laterOf, laterPart}
 use Rattle.run.specs.declared.Run.{Run}
 use Rattle.run.specs.Calls.{startReply, startRun, stepReply, stepRun, stepPlaces, stepChange}
+use Rattle.lines.specs.declared.Sheet.{Sheet}
+use Rattle.lines.specs.Calls.{fillReply, fillSheet}
 use Rattle.exports.specs.declared.Reply.{Reply as Crossed}
 use Rattle.exports.specs.declared.patterns.Part.{Part}
 use Rattle.exports.specs.declared.runs.Started.{Started}
 use Rattle.exports.specs.declared.runs.Stepped.{Stepped}
+use Rattle.exports.specs.declared.sheets.Filled.{Filled}
 
 unfoldable pub replied : Reply → Crossed
 replied y = record { refusal = y .refusal; value = y .value }
@@ -49,3 +53,6 @@ stepTold s =
       places = stepPlaces s;
       change = stepChange s;
     }
+
+unfoldable pub fillTold : Sheet → ℕ → Filled
+fillTold s room = record { refusal = fillReply s room .refusal; bytes = fillReply s room .value; sheet = fillSheet s room }

@@ -5,6 +5,7 @@ pub mod patterns;
 pub mod permutations;
 pub mod records;
 pub mod runs;
+pub mod sheets;
 
 ghost use mathlib.Core.Path.{_≡_};
 ghost use Rattle.shape.specs.Reply.{outcomeReply, numberedReply};

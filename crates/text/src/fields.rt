@@ -42,7 +42,7 @@ pub(crate) fn put_text(text: &[u8], end: u8, out: &mut [u8], at: usize) -> usize
 }
 
 // A number of any size.
-pub(crate) fn put_number(number: u64, end: u8, out: &mut [u8], at: usize) -> usize
+pub fn put_number(number: u64, end: u8, out: &mut [u8], at: usize) -> usize
     requires { ⌜ at + 20 < length (now out) ⌝ }
     ensures { λ r. ⌜ r ≡ at + length (decimal number ++ (end ∷ [])) ⌝ }
     ensures { λ _. ⌜ now (out .exit) ≡ written (now (out .entry)) at (decimal number ++ (end ∷ [])) ⌝ }

@@ -4,6 +4,7 @@ mod fields;
 mod input;
 
 pub use fields::count_up;
+pub use fields::put_number;
 pub use input::Asked;
 pub use input::read;
 ghost use mathlib.Core.Path.{_≡_};

@@ -1,0 +1,13 @@
+pub mod Opening
+pub mod Lines
+pub mod Bounds
+pub mod Pieces
+pub mod Belonging
+pub mod Walking
+pub mod Carried
+pub mod Tests
+pub mod Answers
+pub mod Sheets
+pub mod Falling
+pub mod Shows
+pub mod Examples
