@@ -2,6 +2,11 @@
 --     refusing-made                                 the sheet that only tells a refusal
 --     open-unread, open-refused, open-made          the sheet that an input opens, from what was read and what the run's start answered
 --     places-over, places-going                     the places of a run that is done, and of one that is not
+--     piece-room, piece-within, piece-handed        what handing out a piece asks of the buffer and of the sheet
+--     piece-over, piece-no, piece-first, piece-last, piece-shapes      which piece is next, and the sheet that it leaves
+--     piece-answers                                 all that handing it out answers
+--     refused-.., fill-asked, fill-answers          what filling a buffer answers, refused or not
+--     answers, pieces, fills                        these laws, for `search`
 -- Assumes nothing.
 use mathlib.Core.Path.{_≡_, refl, sym, ap, _∙_}
 use mathlib.Core.Bool.{Bool, true, false, cond, not}
@@ -35,12 +40,12 @@ use Rattle.lines.proofs.Belonging.{fill-passed, kept-sound, kept-handed
 -- ---- opening
 
 pub refusing-made : (f : Refusal) (i : ℕ) → i ≡ refusalNumber f → _≡_ {A = Sheet} (record {
-      refusal = i;
-      opened = false;
-      ended = false;
-      first = 0;
-      run = record { size = 0; next = 0; end = 0; figure = 0; places = noPlaces };
-    }) (refusing (refusalNumber f))
+  refusal = i;
+  opened = false;
+  ended = false;
+  first = 0;
+  run = record { size = 0; next = 0; end = 0; figure = 0; places = noPlaces };
+}) (refusing (refusalNumber f))
 unfolding noRun
 refusing-made f i e = rw e
 
@@ -51,7 +56,7 @@ module _ (input : List ℕ) (b : Bool) (read : b ≡ reads input) where
 
   -- the numbers that were read
   module _ (h : not b ≡ false) (n first end : ℕ) (size : b ≡ true → n ≡ askedSize input) (from : b ≡ true → first ≡ askedFirst input)
-    (to : b ≡ true → end ≡ askedEnd input) (o : Outcome) (started : outcomeReply o ≡ startReply n first end)
+      (to : b ≡ true → end ≡ askedEnd input) (o : Outcome) (started : outcomeReply o ≡ startReply n first end)
     where
       known : startCheck n first end ≡ o
       unfolding startReply
@@ -102,10 +107,10 @@ module _ (s : Sheet) (out : List ℕ) (passed : fillCheck s (length out) ≡ Don
   abbrev Piece : List ℕ → Sheet → Type 0
   Piece text after = (pieceText s (length out) ≡ text) × (pieceSheet s (length out) ≡ after)
 
-  pub piece-answers : (text : List ℕ) (after : Sheet) → Piece text after → (n : ℕ) → n ≡ length text → (out′ : List ℕ) → out′ ≡ written out 0 text
+  pub piece-answers : {text : List ℕ} {after : Sheet} → Piece text after → {n : ℕ} → n ≡ length text → {out′ : List ℕ} → out′ ≡ written out 0 text
       → (r : Filled) → numberedReply (r .bytes) ≡ reply Done n → r .sheet ≡ after → Answers s out r out′
   unfolding fillReply
-  piece-answers text after (t, u) n count out′ put r bytes sheet = rw (passed, t, u) (bytes ∙ ap (reply Done) count, (sheet, put))
+  piece-answers (t, u) count put r bytes sheet = rw (passed, t, u) (bytes ∙ ap (reply Done) count, (sheet, put))
 
   pub piece-over : s .ended ≡ true → Piece [] (sheetWith s (s .opened) true (s .run))
   unfolding pieceText pieceSheet
@@ -140,7 +145,7 @@ module _ (s : Sheet) (out : List ℕ) (passed : fillCheck s (length out) ≡ Don
 
 -- ---- filling
 
-module _ (s : Sheet) (out : List ℕ) (o : Outcome) (checked : o ≡ fillCheck s (length out)) where
+module _ (s : Sheet) (out : List ℕ) {o : Outcome} (checked : o ≡ fillCheck s (length out)) where
   module _ (f : Refusal) (e : o ≡ Refused f) where
     pub refused-bytes : refused f ≡ fillReply s (length out)
     unfolding fillReply
@@ -158,13 +163,13 @@ module _ (s : Sheet) (out : List ℕ) (o : Outcome) (checked : o ≡ fillCheck s
     pub fill-asked : fillCheck s (length out) ≡ Done
     fill-asked = sym checked ∙ e
 
-    pub fill-answers : (r : Filled) (out′ : List ℕ) → Answers s out r out′
+    pub fill-answers : (r : Filled) {out′ : List ℕ} → Answers s out r out′
         → (numberedReply (r .bytes) ≡ fillReply s (length out)) × ((r .sheet ≡ fillSheet s (length out)) × (out′ ≡ fillEnd s out))
     unfolding fillSheet fillEnd
-    fill-answers r out′ (bytes, (sheet, put)) = rw fill-asked (bytes, (sheet, put))
+    fill-answers r (bytes, (sheet, put)) = rw fill-asked (bytes, (sheet, put))
 
 pub ruleset answers = (needs, refusing-made, open-unread, open-refused, open-made, places-over, places-going)
 
 pub ruleset fills = (needs, refused-bytes, refused-sheet, refused-out, fill-asked)
 
-pub ruleset pieces = (needs, piece-room, piece-over, piece-no, piece-first, piece-within, piece-last, piece-handed, piece-shapes)
+pub ruleset pieces = (needs, piece-room, piece-within, piece-handed)

@@ -3,13 +3,12 @@
 --     kept-sound, kept-handed      the run of a sheet that tells no refusal keeps the rules; before its end it hands out a shape
 --     kept-begun                   and it stands at the first shape or later
 -- Assumes nothing.
-use mathlib.Core.Path.{_≡_, refl, sym, ap, _∙_}
-use mathlib.Core.Bool.{Bool, true, false, _&&_, false≢true}
+use mathlib.Core.Path.{_≡_, refl}
+use mathlib.Core.Bool.{Bool, true, false, false≢true}
 use mathlib.Core.Logic.{_↔_, Iff·rfl, _⊎_, inl, inr, ⊎-elim}
 use Prim.Native.Nat.{ℕ, _≤_}
-use native.Mathlib.Nat.{le-refl}
 use native.Mathlib.Omega.{arith}
-use lib.Dec.{leb, eqb}
+use lib.Dec.{leb}
 use borrow.Author.Tests.{eq-eqb}
 use Rattle.shape.specs.Check.{unless}
 use Rattle.shape.specs.declared.Refusal.the-variants.{Length, State}

@@ -6,13 +6,13 @@
 -- Assumes nothing.
 use mathlib.Core.Path.{_≡_, sym, ap, _∙_, subst}
 use mathlib.Core.List.{List}
-use Prim.Native.Nat.{ℕ, _+_, _-_, _*_, _≤_, _<_}
+use Prim.Native.Nat.{ℕ, _*_, _≤_, _<_}
 use native.Mathlib.Decide.{decLt}
 use native.Mathlib.Omega.{arith}
 use lib.ListN.{length, getD, List·getD-eq-default}
 use Rattle.catalan.specs.Count.{C, largestSize}
 use Rattle.shape.specs.Tree.{permutation}
-use Rattle.shape.specs.Form.{count, Feasible, TreePermutation, patternTree}
+use Rattle.shape.specs.Form.{Feasible, TreePermutation, patternTree}
 use Rattle.shape.specs.Number.{localPattern, change, depth}
 use Rattle.shape.proofs.Counts.{count-split}
 use Rattle.shape.proofs.Patterns.{pattern-of}
@@ -25,7 +25,7 @@ module _ (n k : ℕ) (small : n ≤ largestSize) (below : k < C n) (p : List ℕ
   pub shape-formed : Feasible n p
   shape-formed = subst (Feasible n) (sym is) (local-lawful n .shape-formed k below)
 
-  pub shape-long : length p ≡ 2 * n
+  shape-long : length p ≡ 2 * n
   shape-long = ap length is ∙ length-local n k below
 
   pub shape-wide : length p ≤ 70
@@ -51,7 +51,8 @@ module _ (n k : ℕ) (small : n ≤ largestSize) (below : k < C n) (p : List ℕ
     permuted : TreePermutation n q
     permuted =
         let (_, sized) = pattern-of n p shape-formed in
-        subst (λ (l : List ℕ). TreePermutation n l) (sym of) (subst (λ (m : ℕ). TreePermutation m (permutation (patternTree p))) sized (permutation-formed (patternTree p)))
+        let tree = patternTree p in
+        subst (TreePermutation n) (sym of) (subst (λ (m : ℕ). TreePermutation m (permutation tree)) sized (permutation-formed tree))
 
     pub shape-count : length q ≡ n
     shape-count = permuted .entries

@@ -1,10 +1,10 @@
 -- What the walk along a run's shapes is given and what is made of what it leaves, each law in the words in which the code meets it. The run s
 -- hands out a shape.
---     run-..             its size, its numbers, its pattern and its permutation
+--     run-..             its size, its numbers, its pattern, its permutation and its depths
 --     listed-..          the bytes, the run and the buffer after the walk, which went to the shape numbered k with figure f
 --     carries            these laws, for `search`
 -- Assumes nothing.
-use mathlib.Core.Path.{_≡_, refl, sym, ap, ap₂, _∙_, subst}
+use mathlib.Core.Path.{_≡_, sym, ap, _∙_}
 use mathlib.Core.Bool.{cond}
 use mathlib.Core.List.{List, _++_}
 use Prim.Native.Nat.{ℕ, _+_, _-_, _*_, _≤_, _<_}
@@ -31,6 +31,8 @@ use Rattle.run.specs.Sound.{Sound}
 use Rattle.run.specs.Walk.{after, figureOf}
 use Rattle.run.proofs.Places.{placesAt-next, placesAt-end, drop-padded, padded-written}
 use Rattle.run.proofs.States.{sound-holds, step-handed}
+use Rattle.walk.specs.Depths.{depthsOf}
+use Rattle.walk.proofs.Climbs.{length-depths}
 use Rattle.text.specs.Text.{shapeLines, written}
 use Rattle.lines.specs.Calls.{standing, listed}
 use Rattle.lines.proofs.Bounds.{shape-formed, shape-count}
@@ -67,6 +69,29 @@ module _ (s : Run) (e : progress s ≡ Handed) where
   pub run-entries : length (take {A = ℕ} (s .size - 0) (replicate 35 0)) ≡ s .size
   run-entries = length-take-le (s .size - 0) (replicate 35 0) (omega (arith, run-small, length-replicate {A = ℕ} 35 0)) ∙ sub-zero (s .size)
 
+  pub run-odd : Fits w64 (2 * s .size + 1)
+  run-odd = record { fits = omega (arith, run-small) }
+
+  pub run-spare : 2 * s .size + 1 ≤ 71
+  run-spare = omega (arith, run-small)
+
+  pub run-depths : length (take {A = ℕ} (2 * s .size + 1 - 0) (replicate 71 0)) ≡ 2 * s .size + 1
+  run-depths =
+      length-take-le (2 * s .size + 1 - 0) (replicate 71 0) (omega (arith, run-small, length-replicate {A = ℕ} 71 0)) ∙ sub-zero (2 * s .size + 1)
+
+  -- d are the depths that were written over the first numbers
+  module _ (d : List ℕ) (deep : d ≡ depthsOf (take (2 * s .size - 0) (s .places))) (rest : List ℕ) where
+    as-many : length d ≡ 2 * s .size + 1
+    as-many =
+        let long = length-take-le (2 * s .size - 0) (s .places) (omega (arith, run-room)) in
+        ap length deep ∙ omega (arith, length-depths (take (2 * s .size - 0) (s .places)), long)
+
+    pub run-covered : 2 * s .size + 1 ≤ length (d ++ rest)
+    run-covered = omega (arith, as-many, length-append d rest)
+
+    pub run-deep : take (2 * s .size + 1 - 0) (d ++ rest) ≡ depthsOf (take (2 * s .size - 0) (s .places))
+    run-deep = take-at d rest (2 * s .size + 1 - 0) (as-many ∙ sym (sub-zero (2 * s .size + 1))) ∙ deep
+
   -- q is the permutation that was written over the first entries
   module _ (q : List ℕ) (labels : q ≡ permutation (patternTree (take (2 * s .size - 0) (s .places)))) (rest : List ℕ) where
     count : length q ≡ s .size
@@ -78,7 +103,7 @@ module _ (s : Run) (e : progress s ≡ Handed) where
     pub run-labels : take (s .size - 0) (q ++ rest) ≡ permutation (patternTree (take (2 * s .size - 0) (s .places)))
     run-labels = take-at q rest (s .size - 0) (count ∙ sym (sub-zero (s .size))) ∙ labels
 
-  module _ (room k : ℕ) (next : k ≡ s .next + listed (standing (s .size) (s .next) (s .end) (s .figure)) room) where
+  module _ (room : ℕ) {k : ℕ} (next : k ≡ s .next + listed (standing (s .size) (s .next) (s .end) (s .figure)) room) where
     there : k ≡ s .next + listed s room
     there = next ∙ ap (λ (t : Run). s .next + listed t room) (sym (stands s sound))
 
@@ -99,18 +124,18 @@ module _ (s : Run) (e : progress s ≡ Handed) where
       held =
           elim (decLt k (s .end)) [
             | yes on ↦
-                let behind = ap (λ (l : List ℕ). postOf 0 (2 * s .size) l) (sound-holds s sound ∙ placesAt-next (s .size) (s .next) (s .end) run-on) in
+                let places = sound-holds s sound ∙ placesAt-next (s .size) (s .next) (s .end) run-on in
                 rw (ne-eqb k (s .end) (λ h. omega arith), sub-zero, placesAt-next (s .size) k (s .end) on)
                 (padded-written (s .size) k (omega (arith, run-within)) (s .places) q (left on)
-                (behind ∙ drop-padded (s .size) (s .next) (omega (arith, run-on, run-within))))
+                (ap (postOf 0 (2 * s .size)) places ∙ drop-padded (s .size) (s .next) (omega (arith, run-on, run-within))))
             | no past ↦
                 let last : k ≡ s .end = omega (arith, there, fitting-within (s .end - s .next) room s sound) in
                 rw (eq-eqb k (s .end) last) (sym (placesAt-end (s .size) k (s .end) (omega arith)))
           ]
 
-      pub listed-run : (f : ℕ) (places : List ℕ) → f ≡ s .figure + figureOf (s .size) (s .next) k → places ≡ cond (eqb k (s .end)) noPlaces kept
+      pub listed-run : (places : List ℕ) {f : ℕ} → f ≡ s .figure + figureOf (s .size) (s .next) k → places ≡ cond (eqb k (s .end)) noPlaces kept
           → _≡_ {A = Run} (record { size = s .size; next = k; end = s .end; figure = f; places = places }) (after (listed s room) s)
-      listed-run f places figure made =
+      listed-run places figure made =
           (λ i. record { size = s .size; next = k; end = s .end; figure = figure i; places = (made ∙ held) i })
           ∙ ap (λ (j : ℕ). standing (s .size) j (s .end) (s .figure + figureOf (s .size) (s .next) j)) there
           ∙ sym (fitting-after (s .end - s .next) room s sound)
@@ -126,4 +151,7 @@ pub ruleset carries = (
   run-pattern,
   run-formed,
   run-entries,
+  run-odd,
+  run-spare,
+  run-depths,
 )

@@ -4,8 +4,7 @@
 --     sheet-3-5-6, sheet-36-0-0, sheet-x       inputs that are refused with 8, 1 and 11
 -- Assumes nothing.
 use mathlib.Core.Path.{_≡_, refl}
-use mathlib.Core.List.{List, [], _∷_, _++_, flatMap}
-use Prim.Native.Nat.{ℕ}
+use mathlib.Core.List.{[], _∷_, _++_, flatMap}
 use Rattle.catalan.specs.Count.{C, binom, binomBefore, ways, sum}
 use Rattle.shape.specs.Tree.{size, permutationFrom, permutation}
 use Rattle.shape.specs.Form.{count, forest, patternTree}

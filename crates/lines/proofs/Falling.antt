@@ -1,10 +1,10 @@
 -- Of any sheet that is handed in, well formed or not, no more pieces are handed out than it has lines left.
---     pieces-fall      after each piece that is not empty fewer lines are left
+--     pieces-some      a piece that is not refused has some bytes, unless the sheet has ended
+--     pieces-fall      after each piece that has some bytes fewer lines are left
 -- Assumes nothing.
-use mathlib.Core.Path.{_≡_, refl, sym, ap, _∙_, subst}
+use mathlib.Core.Path.{_≡_, refl, sym, ap, subst}
 use mathlib.Core.Bool.{Bool, true, false}
-use mathlib.Core.Logic.{inl, inr}
-use Prim.Native.Nat.{ℕ, _+_, _-_, _≤_, _<_}
+use Prim.Native.Nat.{ℕ, _+_, _-_, _<_}
 use native.Mathlib.Decide.{decLt, ℕ-discrete}
 use native.Mathlib.Omega.{arith}
 use lib.ListN.{length}
@@ -12,13 +12,13 @@ use borrow.Author.Tests.{eq-eqb, ne-eqb}
 use Rattle.shape.specs.declared.Outcome.{Outcome}
 use Rattle.shape.specs.declared.Outcome.the-variants.{Done, Refused}
 use Rattle.run.specs.declared.Run.{Run}
-use Rattle.text.specs.Text.{shapeLines}
+use Rattle.text.specs.Text.{line, runLine, shapeLines, endLine, noLine}
 use Rattle.lines.specs.declared.Sheet.{Sheet}
 use Rattle.lines.specs.Calls.{keeps, fillCheck, listed, pieceText, pieceSheet, fillReply, fillSheet}
 use Rattle.lines.specs.Handing.{linesLeft}
-use Rattle.lines.proofs.Lines.{lines-none}
-use Rattle.lines.proofs.Pieces.{fitting-after, fitting-within}
-use Rattle.lines.proofs.Belonging.{fill-passed, kept-sound}
+use Rattle.lines.proofs.Lines.{lines-none, lines-some}
+use Rattle.lines.proofs.Pieces.{fitting-after, fitting-within, fitting-some}
+use Rattle.lines.proofs.Belonging.{fill-passed, kept-sound, kept-handed}
 
 abbrev Falls : Sheet → ℕ → Type 0
 Falls s room = 0 < length (pieceText s room) → linesLeft (pieceSheet s room) < linesLeft s
@@ -43,7 +43,8 @@ some-lines n k m some =
       | no h ↦ absurd (omega (arith, ap length (lines-none n k (k + m) (omega arith))))
     ]
 
-shapes-fall : (first : ℕ) (run : Run) (room : ℕ) → keeps (listing true first run) ≡ true → (run .next ≡ run .end → ⊥) → Falls (listing true first run) room
+shapes-fall : (first : ℕ) (run : Run) (room : ℕ) → keeps (listing true first run) ≡ true → (run .next ≡ run .end → ⊥)
+    → Falls (listing true first run) room
 unfolding pieceText pieceSheet linesLeft
 shapes-fall first run room kept other =
     let sound = kept-sound (listing true first run) refl kept in
@@ -91,3 +92,42 @@ module _ (s : Sheet) (room : ℕ) where
 
   pub pieces-fall : 0 < fillReply s room .value → linesLeft (fillSheet s room) < linesLeft s
   pieces-fall = by-check (fillCheck s room) refl
+
+-- ---- pieces with no bytes
+
+module _ (s : Sheet) (room : ℕ) (passed : fillCheck s room ≡ Done) (going : s .ended ≡ false) where
+  some-no : (s .refusal ≡ 0 → ⊥) → 0 < length (pieceText s room)
+  unfolding pieceText noLine line
+  some-no told = rw (going, ne-eqb (s .refusal) 0 told) (omega arith)
+
+  module _ (told : s .refusal ≡ 0) where
+    some-first : s .opened ≡ false → 0 < length (pieceText s room)
+    unfolding pieceText runLine line
+    some-first e = rw (going, eq-eqb (s .refusal) 0 told, e) (omega arith)
+
+    some-last : s .opened ≡ true → s .run .next ≡ s .run .end → 0 < length (pieceText s room)
+    unfolding pieceText endLine line
+    some-last e last = rw (going, eq-eqb (s .refusal) 0 told, e, eq-eqb (s .run .next) (s .run .end) last) (omega arith)
+
+    some-shapes : s .opened ≡ true → (s .run .next ≡ s .run .end → ⊥) → 0 < length (pieceText s room)
+    unfolding pieceText
+    some-shapes e other =
+        let (fits, kept) = fill-passed s room .0 passed in
+        let taken = fitting-some (s .run) room fits (kept-handed s told kept other) in
+        rw (going, eq-eqb (s .refusal) 0 told, e, ne-eqb (s .run .next) (s .run .end) other)
+        (lines-some (s .run .size) (s .run .next) (s .run .next + listed (s .run) room) (omega arith))
+
+    by-opened : (b : Bool) → s .opened ≡ b → 0 < length (pieceText s room)
+    by-opened false e = some-first e
+    by-opened true e =
+        elim (ℕ-discrete (s .run .next) (s .run .end)) [
+          | yes last ↦ some-last e last
+          | no other ↦ some-shapes e other
+        ]
+
+  pub pieces-some : 0 < length (pieceText s room)
+  pieces-some =
+      elim (ℕ-discrete (s .refusal) 0) [
+        | yes told ↦ by-opened told (s .opened) refl
+        | no told ↦ some-no told
+      ]

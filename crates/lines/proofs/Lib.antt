@@ -11,3 +11,4 @@ pub mod Sheets
 pub mod Falling
 pub mod Shows
 pub mod Examples
+pub mod Determined

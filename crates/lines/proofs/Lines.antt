@@ -1,14 +1,16 @@
 -- The lines of a run's shapes.
---     lines-none, lines-next, lines-last    none; the first and then the others; the others and then the last
---     lines-join                            two stretches, one after the other
+--     lines-none, lines-last     none; the others and then the last
+--     lines-join                 two stretches, one after the other
+--     lines-some                 where there is a shape, its line has some bytes
 -- Assumes nothing.
-use mathlib.Core.Path.{_≡_, refl, sym, ap, ap₂, _∙_}
+use mathlib.Core.Path.{_≡_, refl, sym, ap, _∙_}
 use mathlib.Core.List.{List, [], _∷_, _++_, flatMap, append-assoc, append-nil}
-use Prim.Native.Nat.{ℕ, suc, _+_, _-_, _≤_, _<_}
+use Prim.Native.Nat.{ℕ, _+_, _-_, _≤_, _<_}
 use native.Mathlib.Omega.{arith}
+use lib.ListN.{length, length-append}
 use Rattle.shape.specs.Numbering.{numbersFrom}
 use Rattle.shape.proofs.Listing.{numbers-join}
-use Rattle.text.specs.Text.{shapeLine, shapeLines}
+use Rattle.text.specs.Text.{line, shapeText, shapeLine, shapeLines}
 
 flatMap-append : {A B : Type 0} (f : A → List B) (u v : List A) → flatMap f (u ++ v) ≡ flatMap f u ++ flatMap f v
 unfolding flatMap
@@ -31,6 +33,10 @@ lines-join n first cut end low high =
     ∙ numbers-join first (cut - first) (end - cut)
     ∙ ap (numbersFrom first) parts)
 
+line-some : (n k : ℕ) → 1 ≤ length (shapeLine n k)
+unfolding shapeLine shapeText line
+line-some n k = rw length-append (omega arith)
+
 lines-one : (n k : ℕ) → shapeLines n k (k + 1) ≡ shapeLine n k
 unfolding shapeLines numbersFrom flatMap
 lines-one n k = let one : k + 1 - k ≡ 1 = omega arith in rw one (append-nil (shapeLine n k))
@@ -38,3 +44,8 @@ lines-one n k = let one : k + 1 - k ≡ 1 = omega arith in rw one (append-nil (s
 pub lines-last : (n first k : ℕ) → first ≤ k → shapeLines n first (k + 1) ≡ shapeLines n first k ++ shapeLine n k
 lines-last n first k h =
     sym (lines-join n first k (k + 1) h (omega arith)) ∙ ap (λ l. shapeLines n first k ++ l) (lines-one n k)
+
+pub lines-some : (n k end : ℕ) → k < end → 1 ≤ length (shapeLines n k end)
+lines-some n k end on =
+    let whole = lines-join n k (k + 1) end (omega arith) (omega arith) in
+    omega (arith, line-some n k, ap length (lines-one n k), length-append (shapeLines n k (k + 1)) (shapeLines n (k + 1) end), ap length whole)

@@ -1,11 +1,12 @@
 -- How many lines a piece takes, and where its run then stands.
---     standing-..        a run that stands at a number keeps the rules; which runs do; what it hands out
---     fitting-..         no line fits, none is handed out, or one is and then others
---     piece-..
+--     standing-sound                 a run that stands at a number of its range keeps the rules
+--     stands, moved                  and a run that keeps them stands at its number; one step on
+--     fitting-full, fitting-stopped, fitting-next      no line fits, none is handed out, or one is and then others
+--     fitting-after, fitting-within  the run after a piece: it stands as many numbers on as lines were taken, not past its end
+--     fitting-some                   a run that hands out a shape gives one line at least
 -- Assumes nothing.
 use mathlib.Core.Path.{_≡_, refl, sym, ap, ap₂, _∙_}
 use mathlib.Core.Logic.{_⊎_, inl, inr}
-use mathlib.Core.Bool.{cond}
 use mathlib.Core.List.{List}
 use Prim.Native.Nat.{ℕ, zero, suc, _+_, _-_, _≤_, _<_, _^_}
 use native.Mathlib.Nat.{add-zero}
@@ -14,7 +15,6 @@ use native.Mathlib.Omega.{arith}
 use lib.ListN.{length}
 use borrow.Author.Tests.{le-leb, lt-leb}
 use Rattle.catalan.specs.Count.{C}
-use Rattle.shape.specs.Number.{change}
 use Rattle.shape.specs.Check.{Sized}
 use Rattle.run.specs.declared.Run.{Run}
 use Rattle.run.specs.declared.Progress.{Progress}
@@ -23,7 +23,7 @@ use Rattle.run.specs.State.{placesAt}
 use Rattle.run.specs.Calls.{progress, ifHanded, raised, movedOn, stepRun}
 use Rattle.run.specs.Walk.{after, figureOf}
 use Rattle.run.specs.Sound.{Sound}
-use Rattle.run.proofs.States.{belong-means, sound-means, sound-holds, step-handed, step-done}
+use Rattle.run.proofs.States.{belong-means, sound-means, sound-holds, step-handed}
 use Rattle.run.proofs.Runs.{figure-none, figure-next, step-sound}
 use Rattle.text.specs.Text.{shapeLine, lineRoom}
 use Rattle.lines.specs.Calls.{standing, fitting}
@@ -120,8 +120,18 @@ fitting-within (suc d) room s sound =
     elim (goes-on s room sound) [
       | inl (fits, e) ↦
           let rest = room - length (shapeLine (s .size) (s .next)) in
-          omega
-          (arith, fitting-next s room d fits e, fitting-within d rest (stepRun s) (step-sound s sound),
-          ap (λ (t : Run). t .next) (moved s e), ap (λ (t : Run). t .end) (moved s e))
+          omega (
+            arith,
+            fitting-next s room d fits e,
+            fitting-within d rest (stepRun s) (step-sound s sound),
+            ap (λ (t : Run). t .next) (moved s e),
+            ap (λ (t : Run). t .end) (moved s e),
+          )
       | inr none ↦ omega (arith, none (suc d), sound .ordered)
     ]
+
+pub fitting-some : (s : Run) (room : ℕ) → lineRoom ≤ room → progress s ≡ Handed → 1 ≤ fitting (s .end - s .next) room s
+fitting-some s room fits e =
+    let on : s .next < s .end = step-handed s .0 e .1 in
+    let more : s .end - s .next ≡ suc (s .end - s .next - 1) = omega arith in
+    rw (more, fitting-next s room (s .end - s .next - 1) fits e) (omega arith)

@@ -1,9 +1,13 @@
--- What a sheet hands out, one buffer after another.
+-- What a sheet hands out, one buffer after another: for every input, and whatever the buffers' sizes, the pieces joined are the input's whole
+-- sheet. Each buffer has room for any line, and there are as many as shapes, and two more.
+--     sheet-handed-out     the pieces joined are the sheet
+--     sheet-ended          then the sheet has ended
+--     sheet-silent         and one more piece has no bytes
 -- Assumes nothing.
-use mathlib.Core.Path.{_≡_, refl, sym, ap, ap₂, _∙_, subst}
-use mathlib.Core.Bool.{Bool, true, false, cond}
+use mathlib.Core.Path.{_≡_, refl, sym, ap, _∙_, subst}
+use mathlib.Core.Bool.{Bool, true, false}
 use mathlib.Core.List.{List, [], _∷_, _++_, append-assoc, append-nil}
-use Prim.Native.Nat.{ℕ, zero, suc, _+_, _-_, _≤_, _<_, _^_}
+use Prim.Native.Nat.{ℕ, zero, suc, _+_, _-_, _≤_, _<_}
 use native.Mathlib.Decide.{decLt}
 use native.Mathlib.Omega.{arith}
 use lib.Dec.{eqb}
@@ -13,39 +17,34 @@ use borrow.Author.Tests.{le-leb, eq-eqb, ne-eqb}
 use Rattle.catalan.specs.Count.{C}
 use Rattle.shape.specs.Every.{All}
 use Rattle.shape.specs.Number.{change}
-use Rattle.shape.specs.Check.{Sized, unless}
-use Rattle.shape.specs.Reply.{refusalNumber, outcomeReply}
-use Rattle.shape.specs.declared.Refusal.{Refusal}
-use Rattle.shape.specs.declared.Refusal.the-variants.{Input}
+use Rattle.shape.specs.Check.{Sized}
+use Rattle.shape.specs.Reply.{refusalNumber}
 use Rattle.shape.specs.declared.Outcome.{Outcome}
 use Rattle.shape.specs.declared.Outcome.the-variants.{Done, Refused}
 use Rattle.shape.proofs.Replies.{refusal-least, refusal-most}
 use Rattle.run.specs.declared.Run.{Run}
-use Rattle.run.specs.declared.Progress.the-variants.{Handed, Done as AtEnd}
-use Rattle.run.specs.Calls.{startCheck, begun, noRun, progress}
+use Rattle.run.specs.declared.Progress.the-variants.{Handed}
+use Rattle.run.specs.Calls.{begun, noRun, progress}
 use Rattle.run.specs.Walk.{figureOf}
 use Rattle.run.specs.Sound.{Sound}
-use Rattle.run.proofs.States.{start-done, step-handed, step-done}
+use Rattle.run.proofs.States.{step-handed, step-done}
 use Rattle.run.proofs.Runs.{figure-none, figure-next, figure-join, figure-fits}
 use Rattle.text.specs.Text.{runLine, shapeLines, endLine, noLine, lineRoom}
-use Rattle.text.specs.Input.{reads, askedSize, askedFirst, askedEnd}
+use Rattle.text.specs.Input.{askedSize, askedFirst, askedEnd}
 use Rattle.lines.specs.declared.Sheet.{Sheet}
 use Rattle.lines.specs.Sheet.{openCheck, sheetFor, sheetOf}
-use Rattle.lines.specs.Calls.{refusing, begunSheet, openSheet, walks, began, over, keeps, fillCheck, standing, fitting, listed}
+use Rattle.lines.specs.Calls.{refusing, begunSheet, openSheet, walks, began, over, keeps, standing, listed}
 use Rattle.lines.specs.Calls.{pieceText, pieceSheet, fillReply, fillSheet}
 use Rattle.lines.specs.Handing.{piecesFrom, sheetAfter}
+use Rattle.lines.proofs.Belonging.{fill-passed}
 use Rattle.lines.proofs.Opening.{open-done}
 use Rattle.lines.proofs.Lines.{lines-none, lines-join}
-use Rattle.lines.proofs.Pieces.{standing-sound, fitting-after, fitting-within, fitting-next}
+use Rattle.lines.proofs.Pieces.{standing-sound, fitting-after, fitting-within, fitting-some}
 
--- ---- pieces that are not refused
+-- ---- one piece after another
 
 abbrev Roomy : ℕ → Type 0
 Roomy room = lineRoom ≤ room
-
-pub fill-done : (s : Sheet) (room : ℕ) → lineRoom ≤ room → keeps s ≡ true → fillCheck s room ≡ Done
-unfolding fillCheck
-fill-done s room h e = rw (le-leb lineRoom room h, e)
 
 -- rooms enough hand out the text, and then the sheet has ended
 abbrev Over : Sheet → Type 0
@@ -65,11 +64,11 @@ over-sheet s room e = rw e
 module _ (s : Sheet) (room : ℕ) (rooms : List ℕ) (fits : Roomy room) (e : keeps s ≡ true) where
   pieces-next : piecesFrom (room ∷ rooms) s ≡ pieceText s room ++ piecesFrom rooms (pieceSheet s room)
   unfolding piecesFrom fillSheet
-  pieces-next = rw (fill-done s room fits e)
+  pieces-next = rw (fill-passed s room .1 (fits, e))
 
   after-next : sheetAfter (room ∷ rooms) s ≡ sheetAfter rooms (pieceSheet s room)
   unfolding sheetAfter fillSheet
-  after-next = rw (fill-done s room fits e)
+  after-next = rw (fill-passed s room .1 (fits, e))
 
 over-hands : (s : Sheet) → Over s → HandsOut s [] 0
 over-hands s o [] h m = unfold piecesFrom sheetAfter in (refl, o)
@@ -126,16 +125,21 @@ module _ (n first end : ℕ) (sized : Sized n) (low : first ≤ end) (high : end
   -- the figure to the end, taken at k
   figure-raised : (k : ℕ) → first ≤ k → k < end → figureOf n first k + change n k ≡ figureOf n first (k + 1)
   figure-raised k l on =
-      omega
-      (arith, figure-join n first k end l (omega arith), figure-next n k end on,
-      figure-join n first (k + 1) end (omega arith) (omega arith))
+      omega (
+        arith,
+        figure-join n first k end l (omega arith),
+        figure-next n k end on,
+        figure-join n first (k + 1) end (omega arith) (omega arith),
+      )
 
   module _ (k : ℕ) (l : first ≤ k) (m : k ≤ end) where
     stage-handed : k < end → progress (standing n k end (figureOf n first k)) ≡ Handed
     stage-handed on =
-        step-handed (standing n k end (figureOf n first k)) .1
-        (standing-sound n k end _ sized m high, on,
-        omega (arith, figure-raised k l on, figure-fits n first (k + 1) (sized .1) (omega arith) (omega arith)))
+        step-handed (standing n k end (figureOf n first k)) .1 (
+          standing-sound n k end _ sized m high,
+          on,
+          omega (arith, figure-raised k l on, figure-fits n first (k + 1) (sized .1) (omega arith) (omega arith)),
+        )
 
     stage-walks : walks (progress (standing n k end (figureOf n first k))) ≡ true
     stage-walks =
@@ -176,9 +180,7 @@ module _ (n first end : ℕ) (sized : Sized n) (low : first ≤ end) (high : end
     here-sound = standing-sound n k end _ sized (omega arith) high
 
     some-taken : 1 ≤ taken
-    some-taken =
-        let more : end - k ≡ suc (end - k - 1) = omega arith in
-        rw (more, fitting-next here room (end - k - 1) fits (stage-handed k l (omega arith) on)) (omega arith)
+    some-taken = fitting-some here room fits (stage-handed k l (omega arith) on)
 
     taken-within : k + taken ≤ end
     taken-within = fitting-within (end - k) room here here-sound
@@ -195,7 +197,8 @@ module _ (n first end : ℕ) (sized : Sized n) (low : first ≤ end) (high : end
     shapes-sheet =
         rw other
         (ap (λ (r : Run). record { refusal = 0; opened = true; ended = false; first = first; run = r })
-        (ap (standing n (k + taken) end) (sym (figure-join n first k (k + taken) l (omega arith))) ∙ sym (fitting-after (end - k) room here here-sound)))
+        (ap (standing n (k + taken) end) (sym (figure-join n first k (k + taken) l (omega arith)))
+        ∙ sym (fitting-after (end - k) room here here-sound)))
 
   abbrev lastLine : List ℕ
   lastLine = endLine (end - first) (figureOf n first end)
@@ -216,10 +219,10 @@ module _ (n first end : ℕ) (sized : Sized n) (low : first ≤ end) (high : end
             let within = taken-within k l on room fits in (
               shapeLines n j end ++ lastLine,
               subst (λ (s : Sheet). HandsOut s (shapeLines n j end ++ lastLine) (end - k)) (shapes-sheet k l on room fits)
-              (λ rooms h enough. shapes-hands d j (omega arith) within (omega arith) rooms h (omega arith)),
+                  (λ rooms h enough. shapes-hands d j (omega arith) within (omega arith) rooms h (omega arith)),
               rw (shapes-text k l on room fits)
-              (sym (append-assoc (shapeLines n k j) (shapeLines n j end) lastLine)
-              ∙ ap (λ t. t ++ lastLine) (lines-join n k j end (omega arith) within)),
+                  (sym (append-assoc (shapeLines n k j) (shapeLines n j end) lastLine)
+                  ∙ ap (λ t. t ++ lastLine) (lines-join n k j end (omega arith) within)),
             ))
         | no past ↦ none-left k (omega arith)
       ]
@@ -269,4 +272,4 @@ module _ (input : List ℕ) where
     sheet-silent room h =
         let last = sheetAfter rooms (openSheet input) in
         let (e, k) = open-hands rooms fits (omega arith) .1 in
-        rw (fill-done last room h k, over-text last room e)
+        rw (fill-passed last room .1 (h, k), over-text last room e)

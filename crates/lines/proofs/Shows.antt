@@ -1,10 +1,11 @@
 -- What a sheet shows: 01, Sheet program.
 --     sheet-lines      of an accepted input: the first line, then a line for each shape that its run hands out, from the run's start to its
 --                      end, and last how many these are and the figure that the run ends with
+--     input-repeated   the first line of an accepted input is the word RUN, a space and the input itself
 --     sheet-refused    of a refused one: only the line that tells the refusal
 -- Assumes nothing.
 use mathlib.Core.Path.{_≡_, refl, sym, ap, ap₂, _∙_}
-use mathlib.Core.List.{List, [], _∷_, _++_, map, flatMap}
+use mathlib.Core.List.{List, _∷_, _++_, map, flatMap}
 use Prim.Native.Nat.{ℕ, zero, suc, _+_, _-_, _≤_, _<_}
 use native.Mathlib.Omega.{arith}
 use lib.ListN.{length}
@@ -19,11 +20,12 @@ use Rattle.shape.proofs.Lists.{length-map}
 use Rattle.shape.proofs.Listing.{length-numbers}
 use Rattle.shape.proofs.LocalNumbers.{local-lawful}
 use Rattle.run.specs.Calls.{startRun}
-use Rattle.run.specs.Walk.{handed, shown, figureOf, runFigure}
+use Rattle.run.specs.Walk.{handed, shown, runFigure}
 use Rattle.run.proofs.Runs.{run-hands-out}
 use Rattle.run.proofs.Cuts.{run-figure}
-use Rattle.text.specs.Text.{runLine, shapeLine, shapeLines, endLine, noLine}
-use Rattle.text.specs.Input.{askedSize, askedFirst, askedEnd}
+use Rattle.text.specs.Text.{line, runWord, runLine, shapeLine, shapeLines, endLine, noLine}
+use Rattle.text.specs.Input.{askLine, askedSize, askedFirst, askedEnd}
+use Rattle.text.proofs.Inputs.{asks-exactly}
 use Rattle.lines.specs.Sheet.{handedLine, openCheck, sheetFor, sheetOf}
 use Rattle.lines.proofs.Opening.{open-done}
 
@@ -71,6 +73,12 @@ module _ (input : List ℕ) where
   sheet-lines e =
       let (_, (sized, low, high)) = open-done input .0 e in
       rw e (run-shown (askedSize input) (askedFirst input) (askedEnd input) sized low high)
+
+  pub input-repeated : openCheck input ≡ Done → runLine (askedSize input) (askedFirst input) (askedEnd input) ≡ runWord ++ (32 ∷ input)
+  unfolding runLine line askLine
+  input-repeated e =
+      let asks = asks-exactly input _ _ _ .1 (open-done input .0 e .0, (refl, (refl, refl))) in
+      ap {B = List ℕ} (λ l. runWord ++ (32 ∷ l)) (sym (asks .text))
 
   pub sheet-refused : (f : Refusal) → openCheck input ≡ Refused f → sheetOf input ≡ noLine (refusalNumber f)
   unfolding sheetOf

@@ -19,7 +19,6 @@ use Rattle.run.specs.declared.Progress.{Progress}
 use Rattle.run.specs.declared.Progress.the-variants.{Handed, Done as AtEnd, Refused as NotHanded}
 use Rattle.run.specs.Calls.{progressReply, stepReply, progress}
 use Rattle.run.proofs.Replies.{progress-exact}
-use Rattle.text.specs.Text.{lineRoom}
 use Rattle.lines.specs.declared.Sheet.{Sheet}
 use Rattle.lines.specs.Calls.{walks, began, over, keeps, fillCheck}
 

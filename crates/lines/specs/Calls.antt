@@ -6,7 +6,7 @@
 --     fillCheck                   what is asked before a piece is handed out, of a buffer of so many bytes
 --     standing                    the run that stands at a number, with a figure
 --     fitting                     how many shapes' lines a piece takes: one is put where the longest would fit
---     listed                      that, for a sheet
+--     listed, listedLines         that, for a run with a buffer of so many bytes, and these lines
 --     pieceText, pieceSheet       the next piece, and the sheet after it (sheetWith)
 --     fillReply, fillSheet, fillEnd       what filling a buffer answers, and what it leaves in the buffer
 -- Assumes nothing.
@@ -81,6 +81,9 @@ fitting (suc d) room s =
 abbrev pub listed : Run → ℕ → ℕ
 listed s room = fitting (s .end - s .next) room s
 
+abbrev pub listedLines : Run → ℕ → List ℕ
+listedLines s room = shapeLines (s .size) (s .next) (s .next + listed s room)
+
 unfoldable pub pieceText : Sheet → ℕ → List ℕ
 pieceText s room =
     cond (s .ended) []
@@ -88,7 +91,7 @@ pieceText s room =
     (cond (s .opened)
     (cond (eqb (s .run .next) (s .run .end))
     (endLine (s .run .end - s .first) (s .run .figure))
-    (shapeLines (s .run .size) (s .run .next) (s .run .next + listed (s .run) room)))
+    (listedLines (s .run) room))
     (runLine (s .run .size) (s .first) (s .run .end)))
     (noLine (s .refusal)))
 

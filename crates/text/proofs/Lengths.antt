@@ -1,5 +1,6 @@
 -- How long the lines of a sheet are.
 --     length-bits            a digit for each place
+--     commas-some            a digit at least where there is a number
 --     commas-most            three bytes at most for each number below 100 and the byte behind it
 --     number-most            twenty digits at most for a number of 64 bits
 --     shape-text-length, run-length, end-length, no-length      a buffer of so many bytes has room for each line
@@ -10,11 +11,17 @@ use Prim.Native.Nat.{ℕ, suc, _+_, _*_, _^_, _≤_, _<_}
 use native.Mathlib.Omega.{arith}
 use lib.ListN.{length, getD, length-append, length-map}
 use Rattle.text.specs.Text.{decimal, bits, commas, line, runWord, endWord, noWord, runLine, shapeText, endLine, noLine, lineRoom}
-use Rattle.text.proofs.Digits.{decimal-fits}
+use Rattle.text.proofs.Digits.{decimal-some, decimal-fits}
 
 pub length-bits : (p : List ℕ) → length (bits p) ≡ length p
 unfolding bits
 length-bits p = length-map p (λ x. 48 + x)
+
+pub commas-some : (q : List ℕ) → 1 ≤ length q → 1 ≤ length (commas q)
+unfolding commas
+commas-some [] some = absurd (omega arith)
+commas-some (x ∷ []) some = decimal-some x
+commas-some (x ∷ y ∷ q) some = rw length-append (omega (arith, decimal-some x))
 
 pub commas-most : (q : List ℕ) → 1 ≤ length q → ((i : ℕ) → getD q i 0 < 100) → length (commas q) + 1 ≤ 3 * length q
 unfolding commas

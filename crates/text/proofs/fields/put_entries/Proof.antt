@@ -4,17 +4,17 @@ use Prim.Native.Nat.{_-_}
 use native.Mathlib.Omega.{arith}
 use lib.ListN.{length}
 use borrow.Author.Needs.{needs}
-use Rattle.text.proofs.Putting.{Entries, entries-start, entries-room, entries-next, entries-count, entries-end}
+use Rattle.text.proofs.Putting.{Entries, entries-start, entries-room, entries-wide, entries-next, entries-count, entries-end}
 use Rattle.text.proofs.fields.put_entries.Statement.{statement}
 use Rattle.text.proofs.fields.put_entries.Tie as tie
 
-ruleset turn = (needs, entries-start, entries-room, entries-next, entries-count, entries-end)
+ruleset turn = (needs, entries-start, entries-room, entries-wide, entries-next, entries-count, entries-end)
 
 abbrev Inv-loop : tie.InvT-loop
-Inv-loop entries out₀ at last at₀ i₀ out at' i = Entries out₀ at entries out at' i
+Inv-loop entries out₀ at words last at₀ i₀ out at' i = Entries out₀ at entries out at' i
 
 abbrev μ-loop : tie.MeasureT-loop
-μ-loop entries out₀ at last at₀ i₀ out at' i = length entries - i
+μ-loop entries out₀ at words last at₀ i₀ out at' i = length entries - i
 
 pub put-entries-spec : {M : Type 1} → statement M
 put-entries-spec =
@@ -22,34 +22,42 @@ put-entries-spec =
     (tie.spec
     Inv-loop
     μ-loop
+    -- labels-requires
+    (λ c κs. search turn)
     -- sub-last
     (λ c. search turn)
     -- loop-holds
     (λ c. search turn)
-    -- mul-put-small
+    -- mul-put-label
     (λ c. search turn)
-    -- shared-slice-read-put-small
+    -- shared-slice-read-put-label
     (λ c. search turn)
-    -- cast-put-small
-    (λ c. omega (arith, c .shared-slice-known2 .given (c .before .before .loop .i)))
-    -- put-small-requires
-    (λ c κs. (c .before .before .before .before .before .before .pre .2 (c .before .before .before .loop .i), search turn))
+    -- cast-put-label
+    (λ c. omega (arith, c .before .before .before .before .before .before .pre .2 (c .before .before .loop .i)))
+    -- mul-put-label-2
+    (λ c. omega (arith, c .before .before .before .before .before .before .pre .2 (c .before .before .loop .i)))
+    -- array-read-put-label
+    (λ c. c .before .before .before .before .before .before .pre .2 (c .before .before .loop .i))
+    -- put-label-requires
+    (λ c κs. search turn)
     -- add-i
     (λ c. search turn)
     -- loop-less
     (λ c. search turn)
     -- loop-again
     (λ c. search turn)
-    -- mul-put-small-2
+    -- mul-put-small
     (λ c. search turn)
-    -- shared-slice-read-put-small-2
+    -- shared-slice-read-put-small
     (λ c. search turn)
-    -- cast-put-small-2
-    (λ c. omega (arith, c .shared-slice-known3 .given (length (c .before .before .before .before .before .args .entries .now) - 1)))
-    -- put-small-requires-2
-    (λ c κs.
+    -- cast-put-small
+    (λ c.
     let q = c .before .before .before .before .before .before .args .entries .now in
-    (c .before .before .before .before .before .before .pre .2 (length q - 1), search turn))
+    omega (arith, c .before .before .before .before .before .before .pre .2 (length q - 1)))
+    -- put-small-requires
+    (λ c κs.
+    let q = c .before .before .before .before .before .before .before .args .entries .now in
+    (c .before .before .before .before .before .before .before .pre .2 (length q - 1), search turn))
     -- same-length
     (λ c. search turn)
     -- returns

@@ -1,0 +1,3 @@
+pub mod Batches
+pub mod Collecting
+pub mod Whole
