@@ -76,7 +76,8 @@ struct Walked {
     bytes: usize,
 }
 
-// Line after line, where there is room for any. A shape's two forms, its depths, its number's text and its change are those of the shape before, moved on.
+// Line after line, where there is room for any. A shape's two forms, its depths, its number's text and its change are those of the shape
+// before, moved on.
 fn put_lines(
     size: usize,
     first: u64,
@@ -88,7 +89,9 @@ fn put_lines(
     out: &mut [u8],
 ) -> Walked
     requires { ⌜ (1 ≤ size) × (size ≤ largestSize) × (first < end) × (end ≤ C size) ⌝ }
-    requires { ⌜ (now places ≡ localPattern size first) × (now entries ≡ permutation (patternTree (now places))) × (now depths ≡ depthsOf (now places)) ⌝ }
+    requires { ⌜ (now places ≡ localPattern size first)
+        × (now entries ≡ permutation (patternTree (now places)))
+        × (now depths ≡ depthsOf (now places)) ⌝ }
     ensures { λ r. ⌜ r .next ≡ first + linesIn (standing size first end before) (length (now (out .entry))) ⌝ }
     ensures { λ r. ⌜ r .figure ≡ before + figureOf size first (r .next) ⌝ }
     ensures { λ r. ⌜ r .bytes ≡ length (shapeLines size first (r .next)) ⌝ }

@@ -38,7 +38,8 @@ pub fn put_shape(
     requires { ⌜ (1 ≤ length (now entries)) × (length (now entries) ≤ 35) ⌝ }
     requires { ⌜ ((i : ℕ) → getD (now places) i 0 ≤ 1) × ((i : ℕ) → getD (now entries) i 0 < 100) × (depth < 100) × (change < 100) ⌝ }
     ensures { λ r. ⌜ r ≡ at + length (shapeText (now (digits .entry)) (now (places .entry)) (now (entries .entry)) depth change) ⌝ }
-    ensures { λ _. ⌜ now (out .exit) ≡ written (now (out .entry)) at (shapeText (now (digits .entry)) (now (places .entry)) (now (entries .entry)) depth change) ⌝ }
+    ensures { λ _. ⌜ now (out .exit)
+        ≡ written (now (out .entry)) at (shapeText (now (digits .entry)) (now (places .entry)) (now (entries .entry)) depth change) ⌝ }
 {
     let at = fields::put_text(digits, b' ', out, at);
     let at = fields::put_bits(places, out, at);

@@ -1,7 +1,8 @@
--- `lines::shapes::list` meets its contract: the walk is given the run's shape in both forms, and the run is made of what it leaves.
+-- `lines::shapes::list` meets its contract: the walk is given the run's shape in both forms and its depths, and the run is
+-- made of what it leaves.
 -- Assumes nothing.
-use Rattle.lines.proofs.Carried.{run-some, run-small, run-on, run-within, run-pattern, run-labels, run-held, run-covered, run-deep, listed-bytes, listed-run}
-use Rattle.lines.proofs.Carried.{listed-out, carries}
+use Rattle.lines.proofs.Carried.{run-some, run-small, run-on, run-within, run-pattern, run-labels, run-held, run-covered, run-deep}
+use Rattle.lines.proofs.Carried.{listed-bytes, listed-run, listed-out, carries}
 use Rattle.lines.proofs.shapes.list.Statement.{statement}
 use Rattle.lines.proofs.shapes.list.Tie as tie
 
@@ -89,7 +90,8 @@ list-spec =
     -- returns
     (λ c.
     let walked = c .before .before .before .before .before .before in
-    let handed = walked .before .before .before .before .before .before .before .before .before .before .before .before .before .before .before .before .before .pre in
+    let deep = walked .before .before .before .before .before .before in
+    let handed = deep .before .before .before .before .before .before .before .before .before .before .before .pre in
     let (next, (figure, (bytes, (out, places)))) = walked .put-lines .ensures in (
       listed-bytes _ handed _ next _ bytes,
       (listed-run _ handed _ next _ places _ figure (c .places-left .ensures), listed-out _ handed _ next _ _ out),

@@ -1,5 +1,5 @@
 -- `lines::shapes::put_lines` meets its contract. The invariant: the lines of the shapes before this one are put, and this one is held in both
--- forms, with its number's text and its change.
+-- forms, with its depths, its number's text and its change.
 -- Assumes nothing.
 use mathlib.Core.Path.{_≡_}
 use Prim.Native.Nat.{_-_}
@@ -7,7 +7,8 @@ use native.Mathlib.Omega.{arith}
 use lib.ListN.{length}
 use borrow.Author.Needs.{needs}
 use Rattle.lines.proofs.Walking.{Holds, first-formed, first-width, holds-first, holds-formed, holds-change, holds-fits, holds-wide}
-use Rattle.lines.proofs.Walking.{holds-places, holds-deepest, holds-deep, holds-shallow, holds-some, holds-few, holds-entries, holds-small, holds-text, holds-width}
+use Rattle.lines.proofs.Walking.{holds-places, holds-deepest, holds-deep, holds-shallow, holds-some, holds-few, holds-entries}
+use Rattle.lines.proofs.Walking.{holds-small, holds-text, holds-width}
 use Rattle.lines.proofs.Walking.{holds-next, Put, put-none, put-full, put-last, put-room, put-stopped, put-next}
 use Rattle.lines.proofs.shapes.put_lines.Statement.{statement}
 use Rattle.lines.proofs.shapes.put_lines.Tie as tie
@@ -118,7 +119,8 @@ put-lines-spec =
     (put-last put (search turn), (put .figure, (put .bytes, (put .put, λ l. absurd (omega arith))))))
     -- next-requires
     (λ c κs.
-    let held = c .before .before .before .before .before .before .before .before .before .before .before .before .before .before .before .loop .inv .1 in
+    let other = c .before .before .before in
+    let held = other .before .before .before .before .before .before .before .before .before .before .before .before .loop .inv .1 in
     ((held .small, holds-formed held, held .labels), held .deep))
     -- slice-aggregate-count-up
     (λ c. search turn)
