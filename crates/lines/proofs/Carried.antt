@@ -1,5 +1,6 @@
 -- What the walk along a run's shapes is given and what is made of what it leaves, each law in the words in which the code meets it. The run s
 -- hands out a shape.
+--     front-held         what was written over the first numbers of a list
 --     run-..             its size, its numbers, its pattern, its permutation and its depths
 --     listed-..          the bytes, the run and the buffer after the walk, which went to the shape numbered k with figure f
 --     carries            these laws, for `search`
@@ -37,6 +38,10 @@ use Rattle.text.specs.Text.{shapeLines, written}
 use Rattle.lines.specs.Calls.{standing, listed}
 use Rattle.lines.proofs.Bounds.{shape-formed, shape-count}
 use Rattle.lines.proofs.Pieces.{stands, fitting-after, fitting-within}
+
+-- d was written over the first m numbers of a list, and is there
+front-held : (m : ℕ) (d rest : List ℕ) → length d ≡ m → (m ≤ length (d ++ rest)) × (take (m - 0) (d ++ rest) ≡ d)
+front-held m d rest h = (omega (arith, length-append d rest), take-at d rest (m - 0) (h ∙ sym (sub-zero m)))
 
 module _ (s : Run) (e : progress s ≡ Handed) where
   sound : Sound s
@@ -87,10 +92,10 @@ module _ (s : Run) (e : progress s ≡ Handed) where
         ap length deep ∙ omega (arith, length-depths (take (2 * s .size - 0) (s .places)), long)
 
     pub run-covered : 2 * s .size + 1 ≤ length (d ++ rest)
-    run-covered = omega (arith, as-many, length-append d rest)
+    run-covered = front-held (2 * s .size + 1) d rest as-many .0
 
     pub run-deep : take (2 * s .size + 1 - 0) (d ++ rest) ≡ depthsOf (take (2 * s .size - 0) (s .places))
-    run-deep = take-at d rest (2 * s .size + 1 - 0) (as-many ∙ sym (sub-zero (2 * s .size + 1))) ∙ deep
+    run-deep = front-held (2 * s .size + 1) d rest as-many .1 ∙ deep
 
   -- q is the permutation that was written over the first entries
   module _ (q : List ℕ) (labels : q ≡ permutation (patternTree (take (2 * s .size - 0) (s .places)))) (rest : List ℕ) where
@@ -98,10 +103,10 @@ module _ (s : Run) (e : progress s ≡ Handed) where
     count = shape-count (s .size) (s .next) run-small (omega (arith, run-on, run-within)) _ run-pattern q labels
 
     pub run-held : s .size ≤ length (q ++ rest)
-    run-held = omega (arith, count, length-append q rest)
+    run-held = front-held (s .size) q rest count .0
 
     pub run-labels : take (s .size - 0) (q ++ rest) ≡ permutation (patternTree (take (2 * s .size - 0) (s .places)))
-    run-labels = take-at q rest (s .size - 0) (count ∙ sym (sub-zero (s .size))) ∙ labels
+    run-labels = front-held (s .size) q rest count .1 ∙ labels
 
   module _ (room : ℕ) {k : ℕ} (next : k ≡ s .next + listed (standing (s .size) (s .next) (s .end) (s .figure)) room) where
     there : k ≡ s .next + listed s room
