@@ -3,9 +3,8 @@ ghost use mathlib.Core.Path.{_≡_};
 ghost use mathlib.Core.List.{[], _∷_, _++_};
 ghost use Prim.Native.Nat.{ℕ, _+_, _*_, _/_, _≤_, _<_};
 ghost use lib.ListN.{length, take, getD};
-ghost use Rattle.catalan.specs.Table.{tabulate};
 ghost use Rattle.text.specs.Text.{decimal, bits, commas, written};
-ghost use Rattle.text.specs.Label.{labelWord, wordBytes};
+ghost use Rattle.text.specs.Label.{wordBytes};
 
 // The text of the number one higher, in the place of a number's. Of most numbers only the last digit changes.
 pub fn count_up(digits: &mut [u8], width: usize) -> usize
@@ -82,117 +81,6 @@ pub(crate) fn put_bits(places: &[u8], out: &mut [u8], at: usize) -> usize
     at + i + 1
 }
 
-// Each number below 100 with a comma behind it, the first byte lowest; the highest byte is how many bytes that is, two or three.
-const LABELS: [u32; 100] = [
-    0x02002c30,
-    0x02002c31,
-    0x02002c32,
-    0x02002c33,
-    0x02002c34,
-    0x02002c35,
-    0x02002c36,
-    0x02002c37,
-    0x02002c38,
-    0x02002c39,
-    0x032c3031,
-    0x032c3131,
-    0x032c3231,
-    0x032c3331,
-    0x032c3431,
-    0x032c3531,
-    0x032c3631,
-    0x032c3731,
-    0x032c3831,
-    0x032c3931,
-    0x032c3032,
-    0x032c3132,
-    0x032c3232,
-    0x032c3332,
-    0x032c3432,
-    0x032c3532,
-    0x032c3632,
-    0x032c3732,
-    0x032c3832,
-    0x032c3932,
-    0x032c3033,
-    0x032c3133,
-    0x032c3233,
-    0x032c3333,
-    0x032c3433,
-    0x032c3533,
-    0x032c3633,
-    0x032c3733,
-    0x032c3833,
-    0x032c3933,
-    0x032c3034,
-    0x032c3134,
-    0x032c3234,
-    0x032c3334,
-    0x032c3434,
-    0x032c3534,
-    0x032c3634,
-    0x032c3734,
-    0x032c3834,
-    0x032c3934,
-    0x032c3035,
-    0x032c3135,
-    0x032c3235,
-    0x032c3335,
-    0x032c3435,
-    0x032c3535,
-    0x032c3635,
-    0x032c3735,
-    0x032c3835,
-    0x032c3935,
-    0x032c3036,
-    0x032c3136,
-    0x032c3236,
-    0x032c3336,
-    0x032c3436,
-    0x032c3536,
-    0x032c3636,
-    0x032c3736,
-    0x032c3836,
-    0x032c3936,
-    0x032c3037,
-    0x032c3137,
-    0x032c3237,
-    0x032c3337,
-    0x032c3437,
-    0x032c3537,
-    0x032c3637,
-    0x032c3737,
-    0x032c3837,
-    0x032c3937,
-    0x032c3038,
-    0x032c3138,
-    0x032c3238,
-    0x032c3338,
-    0x032c3438,
-    0x032c3538,
-    0x032c3638,
-    0x032c3738,
-    0x032c3838,
-    0x032c3938,
-    0x032c3039,
-    0x032c3139,
-    0x032c3239,
-    0x032c3339,
-    0x032c3439,
-    0x032c3539,
-    0x032c3639,
-    0x032c3739,
-    0x032c3839,
-    0x032c3939,
-];
-
-// Its own function, so that the table is compared with the definition once.
-fn labels() -> [u32; 100]
-    ensures { λ r. ⌜ r ≡ tabulate 100 labelWord ⌝ }
-{
-    LABELS
-}
-
 // A label and its comma, from the table. All four bytes of the word are put, since one wide store is quicker than to put only those of the
 // text: the caller puts what comes next over the others.
 fn put_label(word: u32, out: &mut [u8], at: usize) -> usize
@@ -214,7 +102,7 @@ pub(crate) fn put_entries(entries: &[u16], out: &mut [u8], at: usize) -> usize
     ensures { λ r. ⌜ r ≡ at + length (commas (now (entries .entry)) ++ (32 ∷ [])) ⌝ }
     ensures { λ _. ⌜ now (out .exit) ≡ written (now (out .entry)) at (commas (now (entries .entry)) ++ (32 ∷ [])) ⌝ }
 {
-    let words = labels();
+    let words = crate::labels::words();
     let last = entries.len() - 1;
     let mut at = at;
     let mut i = 0;

@@ -2,6 +2,7 @@
 // nothing else of the buffer is touched, and the answer is where the text goes on. The crate stands below the calls.
 mod fields;
 mod input;
+mod labels;
 
 pub use fields::count_up;
 pub use fields::put_number;

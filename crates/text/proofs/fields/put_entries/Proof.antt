@@ -22,7 +22,7 @@ put-entries-spec =
     (tie.spec
     Inv-loop
     μ-loop
-    -- labels-requires
+    -- words-requires
     (λ c κs. search turn)
     -- sub-last
     (λ c. search turn)
