@@ -2,24 +2,25 @@
 --     range-none, range-large, range-turned, range-past, range-fits      the tests of a start, in their order
 --     range-told, range-some, range-small, range-ordered, range-within   what their answer tells
 --     range-doubled, range-room, range-below                             and what follows: 2n places fit, and the first number is one of the size
---     zeros-within, zeros-found            the search for a place above 0 finds none exactly where all places from there on are 0
+--     Summed, summed-none, summed-next, summed-all       places from one on, added up; the sum is 0 exactly where all of them are
+--     place-fits, sum-fits                 and fits its width
 --     number-other, number-same            places are the pattern with a number exactly where they are a pattern and have it
 --     belong-range, belong-end, belong-behind, belong-found              its tests, in their order
 --     tests                                the laws that the code meets, for `search`
 -- Assumes nothing.
 use mathlib.Core.Path.{_≡_, refl, sym, ap, _∙_}
 use mathlib.Core.Logic.{_↔_, Iff·trans, Iff·symm}
-use mathlib.Core.Bool.{Bool, true, false, cond}
+use mathlib.Core.Bool.{Bool, true, false, cond, not}
 use mathlib.Core.List.{List}
-use Prim.Native.Nat.{ℕ, zero, suc, _-_, _*_, _≤_, _<_}
+use Prim.Native.Nat.{ℕ, _+_, _-_, _*_, _≤_, _<_}
 use native.Mathlib.Nat.{sub-zero}
 use native.Mathlib.Decide.{decLt}
 use native.Mathlib.Omega.{arith}
-use lib.Dec.{leb, eqb}
+use lib.Dec.{eqb}
 use lib.ListN.{length, getD, take, drop, replicate, List·getD-eq-default}
 use borrow.Author.Needs.{needs}
-use borrow.Author.Tests.{leb-true, leb-false}
-use mir.Syntax.{w64}
+use borrow.Author.Tests.{not-true, not-false}
+use mir.Syntax.{w8, w64}
 use mir.Val.{Fits}
 use Rattle.catalan.specs.Count.{C, largestSize}
 use Rattle.catalan.specs.Table.{tableAt}
@@ -30,7 +31,6 @@ use Rattle.shape.specs.Numbering.{local}
 use Rattle.shape.specs.Reply.{outcomeReply, numberedReply}
 use Rattle.shape.specs.Check.{sized, Sized, checked}
 use Rattle.shape.specs.Calls.{numberReply}
-use Rattle.shape.specs.Faults.{firstFault}
 use Rattle.shape.specs.declared.Refusal.{Refusal}
 use Rattle.shape.specs.declared.Refusal.the-variants.{Size, Range}
 use Rattle.shape.specs.declared.Outcome.{Outcome}
@@ -41,11 +41,13 @@ use Rattle.shape.proofs.Tests.{equal-means, patterns-tested}
 use Rattle.shape.proofs.Replies.{refusal-least, told-value, told-refused}
 use Rattle.shape.proofs.LocalNumbers.{local-lawful}
 use Rattle.shape.proofs.Checks.{sized-means, checked-done, done-formed}
-use Rattle.shape.proofs.Searches.{Fault, found}
 use Rattle.run.specs.State.{statePlaces, placesAt, same, belong}
 use Rattle.run.specs.Calls.{startCheck}
 use Rattle.run.proofs.Places.{test-fails, same-means, same-other, range-means, zeros-from, placesAt-next, placesAt-end, padded-means}
 use Rattle.run.proofs.States.{start-done, belong-means}
+
+true-not-false : true ≡ false → ⊥
+true-not-false e = let z : _≡_ {A = ℕ} 0 1 = ap (λ (t : Bool). cond t 0 1) e in omega arith
 
 -- two tests that pass alike
 alike : (t u : Bool) → (t ≡ true) ↔ (u ≡ true) → t ≡ u
@@ -123,39 +125,49 @@ module _ (n first end : ℕ) where
 
 -- ---- places that are 0
 
-fault-from : (i d : ℕ) (f : ℕ → Bool) → i ≤ firstFault i d f
-unfolding firstFault
-fault-from i zero f = omega arith
-fault-from i (suc d) f =
-    let later = fault-from (suc i) d f in
-    elim (f i) as (λ t. i ≤ cond t (firstFault (suc i) d f) i) [ true ↦ omega (arith, later) | false ↦ omega arith ]
+-- the places from i on and before j are added up
+pub record Summed (p : List ℕ) (i sum j : ℕ) : Type 0 where
+  pub low : i ≤ j
+  pub high : j ≤ length p
+  pub few : sum ≤ 255 * j
+  pub right : sum ≡ 0 → (k : ℕ) → i ≤ k → k < j → getD p k 0 ≡ 0
+  pub wrong : ((k : ℕ) → i ≤ k → getD p k 0 ≡ 0) → sum ≡ 0
 
-module _ (p : List ℕ) (i r : ℕ) (on : i ≤ length p) (e : r ≡ firstFault i (length p - i) (λ j. leb (getD p j 0) 0)) where
-  first : Fault i (length p - i) (λ j. leb (getD p j 0) 0) r
-  first = rw e (found i (length p - i) (λ j. leb (getD p j 0) 0))
+pub summed-none : (p : List ℕ) (i : ℕ) → i ≤ length p → Summed p i 0 i
+summed-none p i on =
+    record { low = omega arith; high = on; few = omega arith; right = λ e k low high. absurd (omega arith); wrong = λ z. refl }
 
-  pub zeros-within : r ≤ length p
-  zeros-within = omega (arith, first .within)
+module _ (p : List ℕ) (byte : (k : ℕ) → Fits w8 (getD p k 0)) where
+  pub place-fits : (k : ℕ) → Fits w64 (getD p k 0)
+  place-fits k = omega (arith, byte k)
 
-  pub zeros-found : (length p ≤ r) ↔ (drop i p ≡ replicate (length p - i) 0)
-  zeros-found = Iff·trans (all-zero, none-above) (Iff·symm (zeros-from p i))
-    where
-      all-zero : length p ≤ r → (j : ℕ) → i ≤ j → getD p j 0 ≡ 0
-      all-zero h j low =
-          elim (decLt j (length p)) [
-            | yes l ↦ let none = leb-true (getD p j 0) 0 (first .before j low (omega arith)) in omega arith
-            | no l ↦ List·getD-eq-default p 0 (omega arith)
-          ]
+  module _ (i sum j : ℕ) (m : Summed p i sum j) where
+    pub sum-fits : length p ≡ statePlaces → Fits w64 (sum + getD p j 0)
+    sum-fits long = omega (arith, byte j, m .few, m .high)
 
-      none-above : ((j : ℕ) → i ≤ j → getD p j 0 ≡ 0) → length p ≤ r
-      none-above z =
-          elim (decLt r (length p)) [
-            | yes l ↦
-                let low : i ≤ r = omega (arith, fault-from i (length p - i) (λ j. leb (getD p j 0) 0)) in
-                let some = leb-false (getD p r 0) 0 (first .at (omega arith)) in
-                absurd (omega (arith, z r low))
-            | no g ↦ omega arith
-          ]
+    pub summed-next : j < length p → Summed p i (sum + getD p j 0) (j + 1)
+    summed-next on =
+        record {
+          low = omega (arith, m .low);
+          high = omega arith;
+          few = omega (arith, m .few, byte j);
+          right = λ e k low high.
+              elim (decLt k j) [
+                | yes l ↦ m .right (omega arith) k low l
+                | no l ↦ let here : k ≡ j = omega arith in rw here (omega arith)
+              ];
+          wrong = λ z. omega (arith, m .wrong z, z j (m .low));
+        }
+
+pub summed-all : (p : List ℕ) (i sum j : ℕ) → Summed p i sum j → length p ≤ j → (eqb sum 0 ≡ true) ↔ (drop i p ≡ replicate (length p - i) 0)
+summed-all p i sum j m off =
+    Iff·trans (equal-means sum 0) (Iff·trans (
+      λ e k low. elim (decLt k (length p)) [
+        | yes l ↦ m .right e k low (omega arith)
+        | no l ↦ List·getD-eq-default p 0 (omega arith)
+      ],
+      m .wrong,
+    ) (Iff·symm (zeros-from p i)))
 
 -- ---- the pattern with a number
 
@@ -195,31 +207,29 @@ module _ (n k end : ℕ) (p : List ℕ) where
           Iff·trans (λ q. (ranges .0, ranges .1, ranges .2, q), λ (_, _, _, q). q) (Iff·symm (belong-means n k end p)) in
           alike t (belong n k end p) (Iff·trans m places)
 
-      -- v is what the search for a place above 0 found
-      pub belong-end : k ≡ end → (v : ℕ) → v ≡ firstFault 0 (length p - 0) (λ j. leb (getD p j 0) 0) → eqb v (length p) ≡ belong n k end p
+      -- v is whether the places from there on were found to be 0
+      pub belong-end : k ≡ end → (v : Bool) → (v ≡ true) ↔ (drop 0 p ≡ replicate (length p - 0) 0) → v ≡ belong n k end p
       belong-end last v g =
-          let zeros = zeros-found p 0 v (omega arith) g in
           let none : replicate (length p - 0) 0 ≡ placesAt n k end = rw (sub-zero, long) (sym (placesAt-end n k end (omega arith))) in
-          tested (eqb v (length p)) (Iff·trans (equal-means v (length p)) (
-            λ q. zeros .0 (omega arith) ∙ none,
-            λ q. omega (arith, zeros .1 (q ∙ sym none), zeros-within p 0 v (omega arith) g),
-          ))
+          tested v (Iff·trans g (λ q. q ∙ none, λ q. q ∙ sym none))
 
-      module _ (other : k ≡ end → ⊥) (v : ℕ) (g : v ≡ firstFault (2 * n) (length p - 2 * n) (λ j. leb (getD p j 0) 0)) where
-        zeros : (length p ≤ v) ↔ (drop (2 * n) p ≡ replicate (statePlaces - 2 * n) 0)
-        zeros = rw (← long) (zeros-found p (2 * n) v (omega (arith, ranges .0 .1)) g)
+      module _ (other : k ≡ end → ⊥) (v : Bool) (g : (v ≡ true) ↔ (drop (2 * n) p ≡ replicate (length p - 2 * n) 0)) where
+        zeros : (v ≡ true) ↔ (drop (2 * n) p ≡ replicate (statePlaces - 2 * n) 0)
+        zeros = rw (← long) g
 
         parts : (p ≡ placesAt n k end) ↔ ((take (2 * n) p ≡ localPattern n k) × (drop (2 * n) p ≡ replicate (statePlaces - 2 * n) 0))
         parts = rw (placesAt-next n k end (omega (arith, ranges .1))) (padded-means n k (range-below n k end o e h other) p)
 
-        pub belong-behind : v < length p → false ≡ belong n k end p
-        belong-behind on = sym (test-fails (belong-means n k end p) (λ (_, _, _, q). omega (arith, zeros .1 (parts .0 q .1))))
+        pub belong-behind : not v ≡ true → false ≡ belong n k end p
+        belong-behind h =
+            sym
+            (test-fails (belong-means n k end p) (λ (_, _, _, q). true-not-false (sym (zeros .1 (parts .0 q .1)) ∙ not-true v h)))
 
         -- b is whether the places before were found to be the pattern
-        pub belong-found : length p ≤ v → (b : Bool) → b ≡ same (take (2 * n - 0) p) (localPattern n k) → b ≡ belong n k end p
-        belong-found off b t =
+        pub belong-found : not v ≡ false → (b : Bool) → b ≡ same (take (2 * n - 0) p) (localPattern n k) → b ≡ belong n k end p
+        belong-found h b t =
             tested b (rw (t, sub-zero) (Iff·trans (same-means (take (2 * n) p) (localPattern n k)) (
-              λ q. parts .1 (q, zeros .0 off),
+              λ q. parts .1 (q, zeros .0 (not-false v h)),
               λ q. parts .0 q .0,
             )))
 

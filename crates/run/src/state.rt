@@ -1,11 +1,13 @@
 // What a run's state holds, and whether what is handed in is one.
+ghost use mathlib.Core.Logic.{_↔_};
 ghost use mathlib.Core.Path.{_≡_};
-ghost use Prim.Native.Nat.{_+_, _≤_, _<_};
-ghost use lib.ListN.{length};
+ghost use mathlib.Core.Bool.{true};
+ghost use Prim.Native.Nat.{_+_, _-_, _≤_, _<_};
+ghost use lib.ListN.{length, drop, replicate};
 ghost use Rattle.catalan.specs.Count.{C};
 ghost use Rattle.shape.specs.Number.{localPattern};
 ghost use Rattle.shape.specs.Check.{Sized};
-ghost use Rattle.run.specs.State.{placesAt, same, belong};
+ghost use Rattle.run.specs.State.{statePlaces, placesAt, same, belong};
 ghost use Rattle.run.specs.Calls.{startCheck};
 use shape::Numbered;
 use shape::Outcome;
@@ -64,14 +66,28 @@ pub(crate) fn belongs(size: usize, next: u64, end: u64, places: &[u8]) -> bool
         Outcome::Refused(_) => false,
         Outcome::Done => {
             if next == end {
-                return local::first_above(places, 0, 0) == places.len();
+                return clear(places, 0);
             }
-            if local::first_above(places, 0, 2 * size) < places.len() {
+            if !clear(places, 2 * size) {
                 return false;
             }
             numbered(size, next, &places[0..2 * size])
         }
     }
+}
+
+// Whether all places from `from` on are 0. They are added up, since a branch at each would cost more than the rest.
+fn clear(places: &[u8], from: usize) -> bool
+    requires { ⌜ (from ≤ length (now places)) × (length (now places) ≡ statePlaces) ⌝ }
+    ensures { λ r. ⌜ (r ≡ true) ↔ (drop from (now (places .entry)) ≡ replicate (length (now (places .entry)) - from) 0) ⌝ }
+{
+    let mut sum = 0;
+    let mut i = from;
+    while i < places.len() {
+        sum += places[i] as usize;
+        i += 1;
+    }
+    sum == 0
 }
 
 // Whether the places are the pattern with that number.

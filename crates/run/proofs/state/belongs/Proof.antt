@@ -14,13 +14,13 @@ belongs-spec =
     (λ c. search tests)
     -- enum-told-2
     (λ c. search tests)
-    -- first-above-requires
+    -- clear-requires
     (λ c κs. search tests)
     -- returns
     (λ c. search tests)
-    -- mul-first-above
+    -- mul-clear
     (λ c. search tests)
-    -- first-above-requires-2
+    -- clear-requires-2
     (λ c κs. search tests)
     -- returns-2
     (λ c. search tests)
