@@ -8,5 +8,6 @@ pub mod Reply
 pub mod Check
 pub mod Faults
 pub mod Calls
+pub mod Move
 pub mod Determined
 pub mod Lines
