@@ -8,6 +8,7 @@
 --     ways-positive        there is a way while ones are no more than zeros
 --     ways-rises-ones, ways-rises-zeros, ways-at-most, ways-fit     monotone, at most C(b), and within 64 bits
 --     size-limit, C-fits   C(36) fits 64 bits and C(37) does not; up to C(36) they all fit
+--     C-half               up to C(35) they are below 2^63
 --     C-ways, C-words      C(n) = ways n n, the words for one tree of n nodes
 --     words-join           the words for m + k trees are those for m and then those for k: a convolution
 --     segner               C(n+1) = the sum of C(j)·C(n-j) for j ≤ n
@@ -162,6 +163,13 @@ size-limit = (lit< tt, lit≤ tt)
 
 pub C-fits : (n : ℕ) → n ≤ largestSize + 1 → C n < 2 ^ 64
 C-fits n h = omega (arith, size-limit .0, C-rises n (largestSize + 1) h)
+
+-- up to the largest size they even fit 64 bits with a sign
+pub C-half : (n : ℕ) → n ≤ largestSize → C n < 2 ^ 63
+C-half n h = omega (arith, most, C-rises n largestSize h)
+  where
+    most : C largestSize < 2 ^ 63
+    most = unfold C in lit< tt
 
 -- every count that is used fits 64 bits, though the binomials need not (`binom-passes-width`)
 pub ways-fit : (a b : ℕ) → b ≤ largestSize → ways a b < 2 ^ 64

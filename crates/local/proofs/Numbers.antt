@@ -6,23 +6,24 @@
 --     row-grown                   with a 0 more, the row is again that of one 0 fewer
 --     ones-left                   the entry that a 1 asks for is within the row
 --     number-fits                 what it makes of the number fits 64 bits
---     Placing n k p i r a b       the places of p before i, and those worked out from r for a ones and b + 1 zeros, are the pattern numbered k
---     placing-none                so it is before the first place is written, with r the number
+--     Placing q p i r a b         the places of p before i, and those worked out from r for a ones and b zeros, are q
+--     placing-none                so it is before a place is written
 --     placing-zero, placing-one   and after one place more, a 0 where r is among the ways to finish after it, and otherwise a 1
 --     placing-all                 with no ones left, the rest is zeros
---     zeros-left                  a 0 that is placed before a 1 is not the last
+--     zeros-left                  while a 1 is left, so is a 0
+--     placed-pattern              what is worked out from the first place on is the pattern with the number
 -- Assumes nothing.
 use mathlib.Core.Path.{_≡_, refl, sym, ap, _∙_}
 use mathlib.Core.List.{List, [], _∷_, _++_, append-nil}
 use Prim.Native.Nat.{ℕ, zero, suc, _+_, _-_, _*_, _≤_, _<_}
-use native.Mathlib.Nat.{le-refl, sub-zero, add-sub-cancel}
+use native.Mathlib.Nat.{le-refl, zero-add}
 use native.Mathlib.Decide.{decLe}
 use native.Mathlib.Numerals.{add-one}
 use native.Mathlib.Omega.{arith}
 use lib.ListN.{length, getD, set, take, drop, replicate, length-set, drop-of-length-le}
 use mir.Syntax.{w64}
 use mir.Val.{Fits}
-use Rattle.catalan.specs.Count.{C, ways, largestSize}
+use Rattle.catalan.specs.Count.{ways, largestSize}
 use Rattle.catalan.specs.Table.{rowOf}
 use Rattle.catalan.proofs.Counting.{words-one, ways-words, ways-none, ways-step, ways-positive, C-ways, C-fits}
 use Rattle.catalan.proofs.Rows.{row-at}
@@ -142,75 +143,67 @@ module _ (n : ℕ) (p : List ℕ) (g : Feasible n p) (small : n ≤ largestSize)
 
 -- ---- places from a number
 
-pub record Placing (n k : ℕ) (p : List ℕ) (i r a b : ℕ) : Type 0 where
-  pub long : length p ≡ 2 * n
-  pub left : i + a + (b + 1) ≡ 2 * n
-  pub ones : a ≤ b + 1
-  pub zeros : b + 1 ≤ n
-  pub below : r < ways a (b + 1)
-  pub places : take i p ++ localPlaces (2 * n - i) a (b + 1) r ≡ localPattern n k
+pub record Placing (q p : List ℕ) (i r a b : ℕ) : Type 0 where
+  pub left : i + (a + b) ≡ length p
+  pub ones : a ≤ b
+  pub zeros : b ≤ largestSize
+  pub below : r < ways a b
+  pub places : take i p ++ localPlaces (a + b) a b r ≡ q
 
-pub placing-none : (n k : ℕ) (p : List ℕ) → 1 ≤ n → k < C n → length p ≡ 2 * n → Placing n k p 0 k n (n - 1)
-placing-none n k p low h long =
-    let same : n - 1 + 1 ≡ n = omega arith in
-    record {
-      long = long;
-      left = omega arith;
-      ones = omega arith;
-      zeros = omega arith;
-      below = rw (same, sym (C-ways n)) h;
-      places = rw (same, sub-zero) (unfold localPattern in refl);
-    }
+pub placing-none : (p : List ℕ) (i r a b : ℕ) → i + (a + b) ≡ length p → a ≤ b → b ≤ largestSize → r < ways a b
+    → Placing (take i p ++ localPlaces (a + b) a b r) p i r a b
+placing-none p i r a b left ones zeros below = record { left = left; ones = ones; zeros = zeros; below = below; places = refl }
+
+pub placed-pattern : (n k : ℕ) (p q : List ℕ) → q ≡ take 0 p ++ localPlaces (n + n) n n k → q ≡ localPattern n k
+unfolding localPattern
+placed-pattern n k p q e = let twice : n + n ≡ 2 * n = omega arith in e ∙ ap (λ (i : ℕ). localPlaces i n n k) twice
 
 zeros-places : (i b : ℕ) → localPlaces i 0 b 0 ≡ replicate i 0
 zeros-places zero b = unfold localPlaces in refl
 zeros-places (suc i) b = next-zero i 0 b 0 (ways-positive 0 (b - 1) (omega arith)) ∙ ap {B = List ℕ} (λ v. 0 ∷ v) (zeros-places i (b - 1))
 
-module _ (n k : ℕ) (p : List ℕ) (i r a b : ℕ) (m : Placing n k p i r a b) where
-  pub placing-all : (q : List ℕ) → a ≤ 0 → q ≡ take i p ++ (replicate (2 * n - i) 0 ++ drop (2 * n) p) → q ≡ localPattern n k
-  placing-all q h e =
+module _ (q p : List ℕ) (i r a b : ℕ) (m : Placing q p i r a b) where
+  pub placing-all : (v : List ℕ) → a ≤ 0 → v ≡ take i p ++ (replicate (length p - i) 0 ++ drop (length p) p) → v ≡ q
+  placing-all v h e =
       let none : a ≡ 0 = omega arith in
-      let first : r ≡ 0 = omega (arith, rw none at (m .below), ways-words 0 (b + 1) (b + 1 + 1) (omega arith), words-one (b + 1 + 1)) in
-      let past : drop (2 * n) p ≡ [] = drop-of-length-le p {i = 2 * n} (omega (arith, m .long)) in
-      e ∙ rw (past, append-nil {A = ℕ}, sym (zeros-places (2 * n - i) (b + 1))) (rw (none, first) at (m .places))
+      let first : r ≡ 0 = omega (arith, rw none at (m .below), ways-words 0 b (b + 1) (omega arith), words-one (b + 1)) in
+      let rest : length p - i ≡ b = omega (arith, m .left) in
+      let past : drop (length p) p ≡ [] = drop-of-length-le p {i = length p} (omega arith) in
+      e ∙ rw (past, rest, append-nil {A = ℕ}, sym (zeros-places b b)) (rw (none, first, zero-add) at (m .places))
 
-  module _ (row : List ℕ) (w : row ≡ rowOf b) (some : 0 < a) (small : n ≤ largestSize) where
-    entry : getD row a 0 ≡ ways a b
-    entry = rw w (row-at b a (omega (arith, m .ones, m .zeros)))
+  module _ (row : List ℕ) (w : row ≡ rowOf (b - 1)) (some : 0 < a) where
+    entry : getD row a 0 ≡ ways a (b - 1)
+    entry = rw w (row-at (b - 1) a (omega (arith, m .ones, m .zeros)))
 
-    placed : (x : ℕ) (v : List ℕ) → localPlaces (suc (2 * n - (i + 1))) a (b + 1) r ≡ x ∷ v → take (i + 1) (set p i x) ++ v ≡ localPattern n k
-    placed x v e =
-        let here : suc (2 * n - (i + 1)) ≡ 2 * n - i = omega (arith, m .left) in
-        written-next p i x v (omega (arith, m .left, m .long)) ∙ rw (sym e, here) (m .places)
+    placed : (x j : ℕ) (v : List ℕ) → suc j ≡ a + b → localPlaces (suc j) a b r ≡ x ∷ v → take (i + 1) (set p i x) ++ v ≡ q
+    placed x j v s e = written-next p i x v (omega (arith, m .left)) ∙ rw (sym e, s) (m .places)
+
+    pub zeros-left : 1 ≤ b
+    zeros-left = omega (arith, m .ones)
 
     module _ (h : r < getD row a 0) where
-      enough : a ≤ b
-      enough = elim (decLe a b) [ yes l ↦ l | no g ↦ absurd (omega (arith, entry, ways-none a b (omega arith))) ]
+      enough : a ≤ b - 1
+      enough = elim (decLe a (b - 1)) [ yes l ↦ l | no g ↦ absurd (omega (arith, entry, ways-none a (b - 1) (omega arith))) ]
 
-      pub zeros-left : 1 ≤ b
-      zeros-left = omega (arith, enough)
-
-      pub placing-zero : Placing n k (set p i 0) (i + 1) r a (b - 1)
+      pub placing-zero : Placing q (set p i 0) (i + 1) r a (b - 1)
       placing-zero =
-          let same : b - 1 + 1 ≡ b = omega (arith, enough) in
           record {
-            long = length-set p i 0 ∙ m .long;
-            left = omega (arith, m .left, enough);
-            ones = omega (arith, enough);
+            left = omega (arith, m .left, zeros-left, length-set p i 0);
+            ones = enough;
             zeros = omega (arith, m .zeros);
-            below = rw same (omega (arith, entry));
-            places = rw same (placed 0 _ (rw add-sub-cancel at (next-zero (2 * n - (i + 1)) a (b + 1) r (rw add-sub-cancel (omega (arith, entry))))));
+            below = omega (arith, entry);
+            places = placed 0 (a + (b - 1)) _ (omega (arith, zeros-left)) (next-zero (a + (b - 1)) a b r (omega (arith, entry)));
           }
 
-    pub placing-one : getD row a 0 ≤ r → Placing n k (set p i 1) (i + 1) (r - getD row a 0) (a - 1) b
+    pub placing-one : getD row a 0 ≤ r → Placing q (set p i 1) (i + 1) (r - getD row a 0) (a - 1) b
     placing-one h =
         let whole : suc (a - 1) ≡ a = omega arith in
-        let step : ways a (b + 1) ≡ ways a b + ways (a - 1) (b + 1) = rw add-one (rw whole at (ways-step (a - 1) b (omega (arith, m .ones)))) in
+        let fewer : suc (b - 1) ≡ b = omega (arith, zeros-left) in
+        let step : ways a b ≡ ways a (b - 1) + ways (a - 1) b = rw (whole, fewer) at (ways-step (a - 1) (b - 1) (omega (arith, m .ones))) in
         record {
-          long = length-set p i 1 ∙ m .long;
-          left = omega (arith, m .left);
+          left = omega (arith, m .left, length-set p i 1);
           ones = omega (arith, m .ones);
           zeros = m .zeros;
           below = omega (arith, m .below, step, entry);
-          places = placed 1 _ (rw whole at (next-one (2 * n - (i + 1)) (a - 1) (b + 1) r (getD row a 0) (rw (whole, add-sub-cancel, entry)) h));
+          places = placed 1 (a - 1 + b) _ (omega arith) (rw whole at (next-one (a - 1 + b) (a - 1) b r (getD row a 0) (rw (whole, entry)) h));
         }

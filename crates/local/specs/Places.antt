@@ -4,15 +4,18 @@
 --     everySecond x p        p with x at its first place, its third, and so on
 --     nextChange, nextPattern             one step on, with its change; 0, and the pattern as it is, for the last
 --     previousChange, previousPattern     one step back, with the change that it takes back; 0, and the pattern as it is, for the first
+--     movedPattern           a move by a distance; the pattern as it is where that leads past an end
 -- Assumes nothing.
 use mathlib.Core.Bool.{cond}
 use mathlib.Core.List.{List, [], _∷_}
 use Prim.Native.Nat.{ℕ, zero, suc, _+_}
 use lib.Dec.{eqb, ltb}
 use lib.ListN.{getD}
+use lib.IntN.{ℤ}
 use Rattle.catalan.specs.Count.{C}
 use Rattle.shape.specs.Number.{localNumber, change}
 use Rattle.shape.specs.Numbering.{local, next, previous}
+use Rattle.shape.specs.Move.{reaches, moved}
 
 unfoldable pub blockStart : ℕ → List ℕ → ℕ → ℕ
 blockStart x p zero = 0
@@ -41,3 +44,7 @@ previousChange n p = cond (ltb 0 (localNumber p)) (change n (localNumber p)) 0
 
 unfoldable pub previousPattern : ℕ → List ℕ → List ℕ
 previousPattern n p = cond (ltb 0 (localNumber p)) (previous (local n) p) p
+
+-- 02, T-01: the shape at a distance, and the pattern as it is where there is none.
+unfoldable pub movedPattern : ℕ → ℤ → List ℕ → List ℕ
+movedPattern n d p = cond (reaches (local n) d p) (moved (local n) d p) p

@@ -9,14 +9,19 @@ pub use steps::move_block;
 pub use steps::next;
 pub use steps::previous;
 ghost use mathlib.Core.Path.{_≡_};
-ghost use Prim.Native.Nat.{_-_, _*_, _≤_, _<_};
+ghost use mathlib.Core.List.{_++_};
+ghost use Prim.Native.Nat.{_+_, _-_, _*_, _≤_, _<_};
 ghost use lib.Dec.{leb, ltb};
-ghost use lib.ListN.{length, getD};
-ghost use Rattle.catalan.specs.Count.{C, largestSize};
+ghost use lib.ListN.{length, getD, take};
+ghost use Rattle.catalan.specs.Count.{C, ways, largestSize};
+ghost use Rattle.catalan.specs.Table.{rowOf};
 ghost use Rattle.shape.specs.Tree.{head};
 ghost use Rattle.shape.specs.Form.{Feasible, patternTree};
-ghost use Rattle.shape.specs.Number.{localNumber, localPattern, depth as depthOf};
+ghost use Rattle.shape.specs.Number.{localNumber, localPlaces, localPattern, depth as depthOf};
+ghost use Rattle.shape.specs.Numbering.{local};
+ghost use Rattle.shape.specs.Move.{reaches};
 ghost use Rattle.shape.specs.Faults.{firstFault};
+ghost use Rattle.local.specs.Places.{movedPattern};
 
 // From the last place to the first, since a 1 asks for the ways to finish what stands after it with one 0 fewer: that row grows by one 0
 // at a time, and is held for one 0 fewer than have been passed. The last place is a 0, and asks for nothing.
@@ -43,33 +48,74 @@ pub fn number(size: usize, places: &[u8]) -> u64
     number
 }
 
-// From the first place to the last: a 0 stands where the number is among the ways to finish after it. The row of those ways loses a 0 with
-// each 0 that is placed. Once no 1 is left, the rest is zeros.
 pub fn shape(size: usize, number: u64, places: &mut [u8])
     requires { ⌜ (1 ≤ size) × (size ≤ largestSize) × (number < C size) × (length (now places) ≡ 2 * size) ⌝ }
     ensures { λ _. ⌜ now (places .exit) ≡ localPattern size number ⌝ }
 {
     let mut row = [0u64; 36];
     catalan::fill(size - 1, &mut row);
-    let mut left = number;
-    let mut ones = size;
-    let mut after = size - 1;
-    let mut i = 0;
+    put_numbered(places, 0, size, size, number, &mut row);
+}
+
+// The shape at the distance, put in the place of this one, and whether there is one. From the last place to the first, as number goes, and
+// only until the places passed have a word of their own at the target: those before them stay as they are. The row is that of the zeros
+// passed, so its entry for the ones passed says how many words there are.
+pub fn move_by(size: usize, distance: i64, places: &mut [u8]) -> bool
+    requires { ⌜ (1 ≤ size) × (size ≤ largestSize) × Feasible size (now places) ⌝ }
+    ensures { λ r. ⌜ r ≡ reaches (local size) distance (now (places .entry)) ⌝ }
+    ensures { λ _. ⌜ now (places .exit) ≡ movedPattern size distance (now (places .entry)) ⌝ }
+{
+    let mut row = [0u64; 36];
+    row[0] = 1;
+    let mut target = distance::added(distance);
+    let mut ones = 0;
+    let mut zeros = 0;
+    let mut start = 2 * size;
+    while target >= row[ones] {
+        if start == 0 {
+            return false;
+        }
+        start -= 1;
+        if places[start] == 0 {
+            catalan::grow(zeros, &mut row);
+            zeros += 1;
+        } else {
+            target = std::num::wrapping_add_u64(target, row[ones + 1] - row[ones]);
+            ones += 1;
+        }
+    }
+    catalan::shrink(zeros, &mut row);
+    put_numbered(places, start, ones, zeros, target, &mut row);
+    true
+}
+
+// The places from `start` on, from the first of them to the last: a 0 stands where the number is among the ways to finish after it. The row
+// of those ways loses a 0 with each 0 that is placed. Once no 1 is left, the rest is zeros.
+fn put_numbered(places: &mut [u8], start: usize, ones: usize, zeros: usize, number: u64, row: &mut [u64])
+    requires { ⌜ (start + (ones + zeros) ≡ length (now places)) × (ones ≤ zeros) × (zeros ≤ largestSize) ⌝ }
+    requires { ⌜ (number < ways ones zeros) × (now row ≡ rowOf (zeros - 1)) ⌝ }
+    ensures { λ _. ⌜ now (places .exit) ≡ take start (now (places .entry)) ++ localPlaces (ones + zeros) ones zeros number ⌝ }
+{
+    let mut number = number;
+    let mut ones = ones;
+    let mut zeros = zeros;
+    let mut i = start;
     while ones > 0 {
         let ways = row[ones];
-        if left < ways {
+        if number < ways {
             places[i] = 0;
-            catalan::shrink(after, &mut row);
-            after -= 1;
+            zeros -= 1;
+            catalan::shrink(zeros, row);
             i += 1;
         } else {
             places[i] = 1;
-            left -= ways;
+            number -= ways;
             ones -= 1;
             i += 1;
         }
     }
-    steps::put(places, 0, i, 2 * size);
+    let end = places.len();
+    steps::put(places, 0, i, end);
 }
 
 // Two places in a turn, with one comparison for both: the second takes the excess of ones over zeros further up than the first where it is

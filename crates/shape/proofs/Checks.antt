@@ -8,6 +8,7 @@
 --     checked-passes, checked-done       done: the size is 1 to 35 and the list passes all tests; the size is 1 to 35 and the list is well formed
 --     done-sized, done-formed            the same, one way
 --     number-size, number-length, number-refused, number-done          refusals 1, 2 and 5 of a number that is asked for
+--     step-lower, step-after             a list is read, and more is asked: refusals 1 to 4 are those of reading, and any other answer comes after it
 --     successor-lower, successor-last, successor-done                  refusals 1 to 4 as above; of what is well formed, only the last shape
 --     predecessor-lower, predecessor-first, predecessor-done           likewise, only the first
 -- Assumes nothing.
@@ -47,6 +48,10 @@ Other f = Refuses (λ m. m ≡ refusalNumber f → ⊥)
 pub refuses-unless : (P : ℕ → Type 0) (t : Bool) (f : Refusal) (next : Outcome) → P (refusalNumber f) → Refuses P next → Refuses P (unless t f next)
 refuses-unless P true f next h k = k
 refuses-unless P false f next h k = h
+
+refuses-also : {P Q : ℕ → Type 0} (o : Outcome) → ((m : ℕ) → P m → Q m) → Refuses P o → Refuses Q o
+refuses-also Done h k = tt
+refuses-also (Refused f) h k = h (refusalNumber f) k
 
 pub differ : (f : Refusal) (a : Outcome) → Other f a → Refused f ≡ a → ⊥
 differ f a h e = subst (Other f) (sym e) h refl
@@ -224,29 +229,38 @@ module _ (N : Numbering) (k : ℕ) (p : List ℕ) where
 
 -- ---- a step
 
--- A list is read, and then a test decides on a refusal f that reading does not give.
-module _ (N : Numbering) (p : List ℕ) (t : Bool) (f : Refusal) (high : 5 ≤ refusalNumber f) where
+-- A list is read, and then comes next, whose refusals reading does not give.
+module _ (N : Numbering) (p : List ℕ) where
   abbrev reading : Outcome
   reading = checked (N .form) (N .nodes) p
 
-  step-lower : (g : Refusal) → refusalNumber g < 5 → (andThen reading (unless t f Done) ≡ Refused g) ↔ (reading ≡ Refused g)
-  step-lower g l = then-first reading (unless t f Done) g (refuses-unless (λ m. m ≡ refusalNumber g → ⊥) t f Done (λ e. omega arith) tt)
+  module _ (next : Outcome) where
+    pub step-lower : Refuses (λ m. 5 ≤ m) next → (g : Refusal) → refusalNumber g < 5 → (andThen reading next ≡ Refused g) ↔ (reading ≡ Refused g)
+    step-lower high g l = then-first reading next g (refuses-also next (λ m h e. omega arith) high)
 
-  module _ (tested : Tested (N .form)) {P : Type 0} (means : (t ≡ true) ↔ P) where
-    step-after : {Q : Type 0} (a : Outcome) → Refuses (λ m. 5 ≤ m) a → (unless t f Done ≡ a) ↔ Q
-        → (andThen reading (unless t f Done) ≡ a) ↔ (Sized (N .nodes) × WellFormed N p × Q)
-    step-after a h e =
+    pub step-after : {Q : Type 0} → Tested (N .form) → (a : Outcome) → Refuses (λ m. 5 ≤ m) a → (next ≡ a) ↔ Q
+        → (andThen reading next ≡ a) ↔ (Sized (N .nodes) × WellFormed N p × Q)
+    step-after tested a h e =
         let read = checked-done (N .form) tested (N .nodes) p in
-        Iff·trans (then-second 5 reading (unless t f Done) a (checked-most (N .form) (N .nodes) p) h read e) (
+        Iff·trans (then-second 5 reading next a (checked-most (N .form) (N .nodes) p) h read e) (
           λ ((s, w), q). (s, w, q),
           λ (s, w, q). ((s, w), q),
         )
 
-    step-refused : (andThen reading (unless t f Done) ≡ Refused f) ↔ (Sized (N .nodes) × WellFormed N p × (P → ⊥))
-    step-refused = step-after (Refused f) high (failed t f Done means tt)
+  -- one test, which decides on a refusal f
+  module _ (t : Bool) (f : Refusal) (high : 5 ≤ refusalNumber f) where
+    abbrev verdict : Outcome
+    verdict = unless t f Done
 
-    step-done : (andThen reading (unless t f Done) ≡ Done) ↔ (Sized (N .nodes) × WellFormed N p × P)
-    step-done = step-after Done tt (passed-last t f means)
+    verdict-lower : (g : Refusal) → refusalNumber g < 5 → (andThen reading verdict ≡ Refused g) ↔ (reading ≡ Refused g)
+    verdict-lower = step-lower verdict (refuses-unless (λ m. 5 ≤ m) t f Done high tt)
+
+    module _ (tested : Tested (N .form)) {P : Type 0} (means : (t ≡ true) ↔ P) where
+      step-refused : (andThen reading verdict ≡ Refused f) ↔ (Sized (N .nodes) × WellFormed N p × (P → ⊥))
+      step-refused = step-after verdict tested (Refused f) high (failed t f Done means tt)
+
+      step-done : (andThen reading verdict ≡ Done) ↔ (Sized (N .nodes) × WellFormed N p × P)
+      step-done = step-after verdict tested Done tt (passed-last t f means)
 
 module _ (N : Numbering) (tested : Tested (N .form)) (p : List ℕ) where
   pub successor-last : Lawful N → (successorCheck N p ≡ Refused Last) ↔ (Sized (N .nodes) × WellFormed N p × (N .number p + 1 ≡ total N))
@@ -276,8 +290,8 @@ module _ (N : Numbering) (tested : Tested (N .form)) (p : List ℕ) where
 module _ (N : Numbering) (p : List ℕ) where
   pub successor-lower : (f : Refusal) → refusalNumber f < 5 → (successorCheck N p ≡ Refused f) ↔ (checked (N .form) (N .nodes) p ≡ Refused f)
   unfolding successorCheck
-  successor-lower = step-lower N p (ltb (N .number p + 1) (total N)) Last (omega arith)
+  successor-lower = verdict-lower N p (ltb (N .number p + 1) (total N)) Last (omega arith)
 
   pub predecessor-lower : (f : Refusal) → refusalNumber f < 5 → (predecessorCheck N p ≡ Refused f) ↔ (checked (N .form) (N .nodes) p ≡ Refused f)
   unfolding predecessorCheck
-  predecessor-lower = step-lower N p (ltb 0 (N .number p)) First (omega arith)
+  predecessor-lower = verdict-lower N p (ltb 0 (N .number p)) First (omega arith)

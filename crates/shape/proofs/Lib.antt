@@ -23,5 +23,6 @@ pub mod Checks
 pub mod Searches
 pub mod Answers
 pub mod Returns
+pub mod Distances
 pub mod Conversions
 pub mod Determined

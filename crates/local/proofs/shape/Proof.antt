@@ -1,74 +1,47 @@
--- `local::shape` meets its contract. The invariant: the places before i are written, the others are worked out from what is left of the
--- number, and the row is that of the zeros after the next.
--- Assumes nothing.
-use mathlib.Core.Path.{_≡_}
-use Prim.Native.Nat.{_-_, _*_}
-use lib.ListN.{length}
 use borrow.Author.Needs.{needs}
-use Rattle.catalan.specs.Table.{rowOf}
-use Rattle.catalan.proofs.Rows.{row-long}
-use Rattle.local.proofs.Numbers.{Placing, placing-none, placing-zero, placing-one, placing-all, zeros-left}
 use Rattle.local.proofs.shape.Statement.{statement}
 use Rattle.local.proofs.shape.Tie as tie
+use Rattle.local.proofs.shape.Reads as reads
+use Rattle.local.proofs.shape.Lts as lts
+use Rattle.catalan.proofs.fill.Reads as fill-reads
+use Rattle.local.proofs.put_numbered.Reads as put-numbered-reads
 
-ruleset turn = (needs, row-long, placing-none, placing-zero, placing-one, placing-all, zeros-left)
+-- src/lib.rt:56:19
+sub-fill : tie.Need-sub-fill
+sub-fill c = search needs
 
-abbrev Inv-loop : tie.InvT-loop
-Inv-loop size number places₀ row₀ left₀ ones₀ after₀ i₀ places row left ones after i =
-    (length row ≡ 36) × (row ≡ rowOf after) × Placing size number places i left ones after
+-- src/lib.rt:56:29
+slice-aggregate-fill : tie.Need-slice-aggregate-fill
+slice-aggregate-fill c = search needs
 
-abbrev μ-loop : tie.MeasureT-loop
-μ-loop size number places₀ row₀ left₀ ones₀ after₀ i₀ places row left ones after i = 2 * size - i
+-- src/lib.rt:56:5
+fill-requires : tie.Need-fill-requires
+fill-requires c κs = search needs
+
+-- src/lib.rt:57:49
+slice-aggregate-put-numbered : tie.Need-slice-aggregate-put-numbered
+slice-aggregate-put-numbered c = search needs
+
+-- src/lib.rt:57:5
+put-numbered-requires : tie.Need-put-numbered-requires
+put-numbered-requires c κs = ?
+
+-- src/lib.rt:51:1
+same-length : tie.Need-same-length
+same-length c = search needs
+
+-- src/lib.rt:51:1
+returns : tie.Need-returns
+returns c = ?
 
 pub shape-spec : {M : Type 1} → statement M
 shape-spec =
     tie.close
     (tie.spec
-    Inv-loop
-    μ-loop
-    -- sub-fill
-    (λ c. search turn)
-    -- slice-aggregate-fill
-    (λ c. search turn)
-    -- fill-requires
-    (λ c κs. search turn)
-    -- sub-after
-    (λ c. search turn)
-    -- loop-holds
-    (λ c. search turn)
-    -- mul-ways
-    (λ c. search turn)
-    -- array-read-ways
-    (λ c. search turn)
-    -- slice-write-places
-    (λ c. search turn)
-    -- slice-aggregate-shrink
-    (λ c. search turn)
-    -- shrink-requires
-    (λ c κs. search turn)
-    -- sub-after-2
-    (λ c. search turn)
-    -- add-i
-    (λ c. search turn)
-    -- loop-less
-    (λ c. search turn)
-    -- loop-again
-    (λ c. search turn)
-    -- slice-write-places-2
-    (λ c. search turn)
-    -- sub-ones
-    (λ c. search turn)
-    -- add-i-2
-    (λ c. search turn)
-    -- loop-less-2
-    (λ c. search turn)
-    -- loop-again-2
-    (λ c. search turn)
-    -- mul-put
-    (λ c. search turn)
-    -- put-requires
-    (λ c κs. search turn)
-    -- same-length
-    (λ c. search turn)
-    -- returns
-    (λ c. search turn))
+    sub-fill
+    slice-aggregate-fill
+    fill-requires
+    slice-aggregate-put-numbered
+    put-numbered-requires
+    same-length
+    returns)
