@@ -4,3 +4,4 @@ pub mod Walks
 pub mod Blocks
 pub mod Moves
 pub mod Chains
+pub mod Targets

@@ -11,6 +11,7 @@
 --     placing-zero, placing-one   and after one place more, a 0 where r is among the ways to finish after it, and otherwise a 1
 --     placing-all                 with no ones left, the rest is zeros
 --     zeros-left                  while a 1 is left, so is a 0
+--     ways-whole                  a number below C(n) is below the ways to finish the whole pattern
 --     placed-pattern              what is worked out from the first place on is the pattern with the number
 -- Assumes nothing.
 use mathlib.Core.Path.{_≡_, refl, sym, ap, _∙_}
@@ -23,7 +24,7 @@ use native.Mathlib.Omega.{arith}
 use lib.ListN.{length, getD, set, take, drop, replicate, length-set, drop-of-length-le}
 use mir.Syntax.{w64}
 use mir.Val.{Fits}
-use Rattle.catalan.specs.Count.{ways, largestSize}
+use Rattle.catalan.specs.Count.{C, ways, largestSize}
 use Rattle.catalan.specs.Table.{rowOf}
 use Rattle.catalan.proofs.Counting.{words-one, ways-words, ways-none, ways-step, ways-positive, C-ways, C-fits}
 use Rattle.catalan.proofs.Rows.{row-at}
@@ -153,6 +154,9 @@ pub record Placing (q p : List ℕ) (i r a b : ℕ) : Type 0 where
 pub placing-none : (p : List ℕ) (i r a b : ℕ) → i + (a + b) ≡ length p → a ≤ b → b ≤ largestSize → r < ways a b
     → Placing (take i p ++ localPlaces (a + b) a b r) p i r a b
 placing-none p i r a b left ones zeros below = record { left = left; ones = ones; zeros = zeros; below = below; places = refl }
+
+pub ways-whole : (n k : ℕ) → k < C n → k < ways n n
+ways-whole n k h = rw (← C-ways n) h
 
 pub placed-pattern : (n k : ℕ) (p q : List ℕ) → q ≡ take 0 p ++ localPlaces (n + n) n n k → q ≡ localPattern n k
 unfolding localPattern
