@@ -34,7 +34,8 @@ use Rattle.shape.proofs.Counts.{count-split}
 use Rattle.shape.proofs.Patterns.{Word, done, zero-next, one-next, word-zeros, feasible-word, word-feasible, feasible-length}
 use Rattle.shape.proofs.LocalNumbers.{HasNumber, number-one, number-zero, word-number-below, places-numbered, local-lawful}
 use Rattle.shape.proofs.Neighbours.{behind, word-same, swapped, swapped-number}
-use Rattle.distance.proofs.Sums.{sum-on, sum-reached, sum-past}
+use Rattle.distance.proofs.Sums.{sum-on, sum-reached}
+use Rattle.distance.proofs.Reaching.{sum-stops}
 use Rattle.local.specs.Places.{movedPattern}
 
 pub record Sought (n : ℕ) (p : List ℕ) (z i t a b : ℕ) : Type 0 where
@@ -230,10 +231,7 @@ module _ (n : ℕ) (p : List ℕ) (g : Feasible n p) (small : n ≤ largestSize)
         entry n p g small (ofZ w64 d) i t a b m row w ∙ rw (sym y, zeros) (sym (C-ways n))
 
     pub target-past : false ≡ reaches (local n) d p
-    unfolding reaches target
-    target-past =
-        sym (sum-past (localNumber p) (C n) (omega (arith, words-small, every-word)) (local-lawful n .number-below p g) d f t
-        (m .sum ∙ rw all) (omega (arith, every-word)))
+    target-past = sum-stops (local n) (local-lawful n) small p g d f t (m .sum ∙ rw all) (omega (arith, every-word))
 
     pub target-left : p ≡ movedPattern n d p
     unfolding movedPattern

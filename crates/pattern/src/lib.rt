@@ -8,6 +8,7 @@ ghost use Rattle.shape.specs.Form.{patterns};
 ghost use Rattle.shape.specs.Numbering.{local};
 ghost use Rattle.shape.specs.Reply.{outcomeReply, numberedReply};
 ghost use Rattle.shape.specs.Calls.{checkReply, numberReply, shapeReply, shapeEnd, successorEnd, predecessorEnd};
+ghost use Rattle.shape.specs.Move.{moveReply, moveEnd};
 ghost use Rattle.pattern.specs.Calls.{successorChange, predecessorChange, depthReply, headPart, laterOf, laterPart};
 use shape::Form;
 use shape::Numbered;
@@ -81,6 +82,22 @@ pub fn predecessor(size: usize, places: &mut [u8]) -> Numbered
                 return Numbered::Refused(Refusal::First);
             }
             Numbered::Value(change)
+        }
+    }
+}
+
+// The pattern at the distance, on or back, in the place of this one.
+pub fn move_by(size: usize, distance: i64, places: &mut [u8]) -> Outcome
+    ensures { λ r. ⌜ outcomeReply r ≡ moveReply (local size) distance (now (places .entry)) ⌝ }
+    ensures { λ _. ⌜ now (places .exit) ≡ moveEnd (local size) distance (now (places .entry)) ⌝ }
+{
+    match check(size, places) {
+        Outcome::Refused(refusal) => Outcome::Refused(refusal),
+        Outcome::Done => {
+            if local::move_by(size, distance, places) {
+                return Outcome::Done;
+            }
+            Outcome::Refused(distance::end_past(distance))
         }
     }
 }

@@ -8,6 +8,7 @@ ghost use Rattle.shape.specs.Numbering.{natural};
 ghost use Rattle.shape.specs.Reply.{outcomeReply, numberedReply};
 ghost use Rattle.shape.specs.Calls.{checkReply, numberReply, shapeReply, shapeEnd};
 ghost use Rattle.shape.specs.Calls.{successorReply, successorEnd, predecessorReply, predecessorEnd};
+ghost use Rattle.shape.specs.Move.{moveReply, moveEnd};
 use shape::Form;
 use shape::Numbered;
 use shape::Outcome;
@@ -82,6 +83,26 @@ pub fn predecessor(size: usize, entries: &mut [u16]) -> Outcome
                 return Outcome::Done;
             }
             Outcome::Refused(Refusal::First)
+        }
+    }
+}
+
+// The tree permutation at the distance, on or back, in the place of this one.
+pub fn move_by(size: usize, distance: i64, entries: &mut [u16]) -> Outcome
+    ensures { λ r. ⌜ outcomeReply r ≡ moveReply (natural size) distance (now (entries .entry)) ⌝ }
+    ensures { λ _. ⌜ now (entries .exit) ≡ moveEnd (natural size) distance (now (entries .entry)) ⌝ }
+{
+    match check(size, entries) {
+        Outcome::Refused(refusal) => Outcome::Refused(refusal),
+        Outcome::Done => {
+            let catalans = catalan::table();
+            let number = natural::number(&catalans, 0, entries);
+            let target = std::num::wrapping_add_u64(number, distance::added(distance));
+            if target < catalans[size] {
+                natural::shape(&catalans, 0, target, entries);
+                return Outcome::Done;
+            }
+            Outcome::Refused(distance::end_past(distance))
         }
     }
 }
