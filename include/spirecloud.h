@@ -75,6 +75,7 @@ spire_reply spire_pattern_number(size_t size, const uint8_t *places, size_t coun
 spire_reply spire_pattern_shape(size_t size, uint64_t number, uint8_t *places, size_t count);
 spire_reply spire_pattern_successor(size_t size, uint8_t *places, size_t count);
 spire_reply spire_pattern_predecessor(size_t size, uint8_t *places, size_t count);
+spire_reply spire_pattern_move(size_t size, int64_t distance, uint8_t *places, size_t count);
 spire_reply spire_pattern_depth(size_t size, const uint8_t *places, size_t count);
 spire_part spire_pattern_head(size_t size, const uint8_t *places, size_t count);
 spire_part spire_pattern_later(
@@ -86,6 +87,7 @@ spire_reply spire_permutation_number(size_t size, const uint16_t *entries, size_
 spire_reply spire_permutation_shape(size_t size, uint64_t number, uint16_t *entries, size_t count);
 spire_reply spire_permutation_successor(size_t size, uint16_t *entries, size_t count);
 spire_reply spire_permutation_predecessor(size_t size, uint16_t *entries, size_t count);
+spire_reply spire_permutation_move(size_t size, int64_t distance, uint16_t *entries, size_t count);
 
 /* One form written in the other. */
 spire_reply spire_to_permutation(

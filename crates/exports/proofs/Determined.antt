@@ -1,5 +1,5 @@
 -- Each function's contract asks nothing of its caller and says exactly what is seen of it: the answer, and what is left in a slice that it
--- writes. So two answers that meet it are equal, and so are the slices in the end. n is the size, k a number, p and q what is lent, s what
+-- writes. So two answers that meet it are equal, and so are the slices in the end. n is the size, k a number, d a distance, p and q what is lent, s what
 -- the written slice is in the end, t a run's state.
 -- Assumes nothing.
 use mathlib.Core.Logic.{Iff·rfl}
@@ -12,6 +12,7 @@ use Rattle.shape.specs.Numbering.{local, natural}
 use Rattle.shape.specs.Determined.{Determined, determined, exact-both}
 use Rattle.shape.specs.Calls.{checkReply, numberReply, shapeReply, shapeEnd, successorReply, successorEnd, predecessorReply, predecessorEnd}
 use Rattle.shape.specs.Calls.{conversionReply, conversionEnd}
+use Rattle.shape.specs.Move.{moveReply, moveEnd}
 use Rattle.pattern.specs.Calls.{successorChange, predecessorChange, depthReply}
 use Rattle.record.specs.Calls.{writeReply, writeEnd, readReply, readEnd}
 use Rattle.lines.specs.declared.Sheet.{Sheet}
@@ -27,6 +28,7 @@ use Rattle.exports.proofs.patterns.spire_pattern_number.Reads as patter
 use Rattle.exports.proofs.patterns.spire_pattern_shape.Reads as pattern-shape
 use Rattle.exports.proofs.patterns.spire_pattern_successor.Reads as pattern-successor
 use Rattle.exports.proofs.patterns.spire_pattern_predecessor.Reads as pattern-predecessor
+use Rattle.exports.proofs.patterns.spire_pattern_move.Reads as pattern-move
 use Rattle.exports.proofs.patterns.spire_pattern_depth.Reads as pattern-depth
 use Rattle.exports.proofs.patterns.spire_pattern_head.Reads as pattern-head
 use Rattle.exports.proofs.patterns.spire_pattern_later.Reads as pattern-later
@@ -35,6 +37,7 @@ use Rattle.exports.proofs.permutations.spire_permutation_number.Reads a
 use Rattle.exports.proofs.permutations.spire_permutation_shape.Reads as permutation-shape
 use Rattle.exports.proofs.permutations.spire_permutation_successor.Reads as permutation-successor
 use Rattle.exports.proofs.permutations.spire_permutation_predecessor.Reads as permutation-predecessor
+use Rattle.exports.proofs.permutations.spire_permutation_move.Reads as permutation-move
 use Rattle.exports.proofs.conversions.spire_to_permutation.Reads as to-permutation
 use Rattle.exports.proofs.conversions.spire_to_pattern.Reads as to-pattern
 use Rattle.exports.proofs.runs.spire_run_start.Reads as run-start
@@ -65,6 +68,10 @@ pub pattern-predecessor-determined : Determined (Reply × List ℕ) pattern-pred
     (λ κ r (_, (s, _)). (r, now s))
     (λ κ (n, (p, _)). (replied (predecessorChange n (now p)), predecessorEnd (local n) (now p)))
 pattern-predecessor-determined = determined (λ κ a. tt) (λ κ a r s. exact-both Iff·rfl Iff·rfl)
+
+pub pattern-move-determined : Determined (Reply × List ℕ) pattern-move.Pre pattern-move.Post (λ κ r (_, (_, (s, _))). (r, now s))
+    (λ κ (n, (d, (p, _))). (replied (moveReply (local n) d (now p)), moveEnd (local n) d (now p)))
+pattern-move-determined = determined (λ κ a. tt) (λ κ a r s. exact-both Iff·rfl Iff·rfl)
 
 pub pattern-depth-determined : Determined Reply pattern-depth.Pre pattern-depth.Post (λ κ r s. r)
     (λ κ (n, (p, _)). replied (depthReply n (now p)))
@@ -99,6 +106,10 @@ pub permutation-predecessor-determined : Determined (Reply × List ℕ) permutat
     (λ κ r (_, (s, _)). (r, now s))
     (λ κ (n, (p, _)). (replied (predecessorReply (natural n) (now p)), predecessorEnd (natural n) (now p)))
 permutation-predecessor-determined = determined (λ κ a. tt) (λ κ a r s. exact-both Iff·rfl Iff·rfl)
+
+pub permutation-move-determined : Determined (Reply × List ℕ) permutation-move.Pre permutation-move.Post (λ κ r (_, (_, (s, _))). (r, now s))
+    (λ κ (n, (d, (p, _))). (replied (moveReply (natural n) d (now p)), moveEnd (natural n) d (now p)))
+permutation-move-determined = determined (λ κ a. tt) (λ κ a r s. exact-both Iff·rfl Iff·rfl)
 
 pub to-permutation-determined : Determined (Reply × List ℕ) to-permutation.Pre to-permutation.Post (λ κ r (_, (_, (s, _))). (r, now s))
     (λ κ (n, (p, (q, _))). (

@@ -4,6 +4,7 @@
 --     value-crosses, unnumbered-crosses         a number, or a refusal
 --     handed-crosses, ended-crosses, stopped-crosses      how a step went
 --     reply-crosses                             any reply that a call's contract gives
+--     move-crosses, move-left                   the reply of a move, and what it leaves
 --     start-crosses, step-crosses               the whole answer of a start and of a step
 --     fill-crosses                              and of a sheet's next piece
 --     told                                      these, for `search`
@@ -11,7 +12,13 @@
 use mathlib.Core.Path.{_≡_, ap, _∙_}
 use mathlib.Core.List.{List}
 use Prim.Native.Nat.{ℕ}
+use lib.IntN.{ℤ}
 use borrow.Author.Needs.{needs}
+use mir.Syntax.{w64}
+use mir.Val.{SFits, toZ, ofZ}
+use mir.Facts.{toZ-ofZ}
+use Rattle.shape.specs.Numbering.{Numbering}
+use Rattle.shape.specs.Move.{moveReply, moveEnd}
 use Rattle.shape.specs.Reply.{Reply, refusalNumber, refused, outcomeReply, numberedReply}
 use Rattle.shape.specs.declared.Refusal.{Refusal}
 use Rattle.shape.specs.declared.Outcome.{Outcome}
@@ -62,6 +69,14 @@ stopped-crosses x f r e g = rw e g
 pub reply-crosses : (r : Crossed) (y z : Reply) → r ≡ replied y → y ≡ z → r ≡ replied z
 reply-crosses r y z e g = e ∙ ap replied g
 
+-- the distance d of a move is handed on, and read back from its bits
+module _ (N : Numbering) (d : ℤ) (s : SFits w64 d) (p : List ℕ) where
+  pub move-crosses : (r : Crossed) (y : Reply) → r ≡ replied y → y ≡ moveReply N (toZ w64 (ofZ w64 d)) p → r ≡ replied (moveReply N d p)
+  move-crosses r y e g = e ∙ ap replied (g ∙ ap (λ z. moveReply N z p) (toZ-ofZ s))
+
+  pub move-left : (q : List ℕ) → q ≡ moveEnd N (toZ w64 (ofZ w64 d)) p → q ≡ moveEnd N d p
+  move-left q e = e ∙ ap (λ z. moveEnd N z p) (toZ-ofZ s)
+
 -- t is what crossed of the reply y, and s the state after it
 module _ (t : Crossed) (y : Reply) (s : Run) (e : t ≡ replied y) where
   pub start-crosses : (n first end : ℕ) → y ≡ startReply n first end → s ≡ startRun n first end
@@ -89,6 +104,8 @@ pub ruleset told = (
   ended-crosses,
   stopped-crosses,
   reply-crosses,
+  move-crosses,
+  move-left,
   start-crosses,
   step-crosses,
   fill-crosses,

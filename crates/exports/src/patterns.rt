@@ -3,6 +3,7 @@ ghost use mathlib.Core.Path.{_≡_};
 ghost use Rattle.shape.specs.Form.{patterns};
 ghost use Rattle.shape.specs.Numbering.{local};
 ghost use Rattle.shape.specs.Calls.{checkReply, numberReply, shapeReply, shapeEnd, successorEnd, predecessorEnd};
+ghost use Rattle.shape.specs.Move.{moveReply, moveEnd};
 ghost use Rattle.pattern.specs.Calls.{successorChange, predecessorChange, depthReply};
 ghost use Rattle.exports.specs.Crossing.{replied, fromStart, headTold, laterTold};
 use crate::Reply;
@@ -52,6 +53,14 @@ pub extern "C" fn spire_pattern_predecessor(size: usize, places: &mut [u8]) -> R
     ensures { λ _. ⌜ now (places .exit) ≡ predecessorEnd (local size) (now (places .entry)) ⌝ }
 {
     crate::numbered_reply(pattern::predecessor(size, places))
+}
+
+#[no_mangle]
+pub extern "C" fn spire_pattern_move(size: usize, distance: i64, places: &mut [u8]) -> Reply
+    ensures { λ r. ⌜ r ≡ replied (moveReply (local size) distance (now (places .entry))) ⌝ }
+    ensures { λ _. ⌜ now (places .exit) ≡ moveEnd (local size) distance (now (places .entry)) ⌝ }
+{
+    crate::outcome_reply(pattern::move_by(size, distance, places))
 }
 
 #[no_mangle]

@@ -4,6 +4,7 @@ ghost use Rattle.shape.specs.Form.{permutations};
 ghost use Rattle.shape.specs.Numbering.{natural};
 ghost use Rattle.shape.specs.Calls.{checkReply, numberReply, shapeReply, shapeEnd};
 ghost use Rattle.shape.specs.Calls.{successorReply, successorEnd, predecessorReply, predecessorEnd};
+ghost use Rattle.shape.specs.Move.{moveReply, moveEnd};
 ghost use Rattle.exports.specs.Crossing.{replied};
 use crate::Reply;
 
@@ -43,4 +44,12 @@ pub extern "C" fn spire_permutation_predecessor(size: usize, entries: &mut [u16]
     ensures { λ _. ⌜ now (entries .exit) ≡ predecessorEnd (natural size) (now (entries .entry)) ⌝ }
 {
     crate::outcome_reply(permutation::predecessor(size, entries))
+}
+
+#[no_mangle]
+pub extern "C" fn spire_permutation_move(size: usize, distance: i64, entries: &mut [u16]) -> Reply
+    ensures { λ r. ⌜ r ≡ replied (moveReply (natural size) distance (now (entries .entry))) ⌝ }
+    ensures { λ _. ⌜ now (entries .exit) ≡ moveEnd (natural size) distance (now (entries .entry)) ⌝ }
+{
+    crate::outcome_reply(permutation::move_by(size, distance, entries))
 }

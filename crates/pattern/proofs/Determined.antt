@@ -1,6 +1,6 @@
 -- Each call's contract asks nothing of the caller and says exactly what is seen of the call: its answer, and what it leaves in a slice that
 -- it writes; of a returned part, where it points and what it holds. So two answers that meet it are equal, and so are the slices in the end.
--- n is the size, k a number, p the lent slice; q is the second one, or what p is in the end.
+-- n is the size, k a number, d a distance, p the lent slice; q is the second one, or what p is in the end.
 -- Assumes nothing.
 use mathlib.Core.Logic.{Iff·rfl}
 use mathlib.Core.List.{List}
@@ -15,12 +15,14 @@ use Rattle.shape.specs.declared.Numbered.{Numbered}
 use Rattle.shape.specs.Determined.{Determined, determined, exact-both}
 use Rattle.shape.proofs.Replies.{outcome-exact, numbered-exact}
 use Rattle.shape.specs.Calls.{checkReply, numberReply, shapeReply, shapeEnd, successorEnd, predecessorEnd}
+use Rattle.shape.specs.Move.{moveCheck, moveReply, moveEnd}
 use Rattle.pattern.specs.Calls.{successorChange, predecessorChange, depthReply, headPart, laterOf, laterPart}
 use Rattle.pattern.proofs.check.Reads as check
 use Rattle.pattern.proofs.number.Reads as number
 use Rattle.pattern.proofs.shape.Reads as shape
 use Rattle.pattern.proofs.successor.Reads as successor
 use Rattle.pattern.proofs.predecessor.Reads as predecessor
+use Rattle.pattern.proofs.move_by.Reads as move-by
 use Rattle.pattern.proofs.depth.Reads as depth
 use Rattle.pattern.proofs.head.Reads as head
 use Rattle.pattern.proofs.later.Reads as later
@@ -57,6 +59,11 @@ pub predecessor-determined : Determined (Numbered × List ℕ) predecessor.Pre p
     (λ κ (n, (p, _)). (numbered (predecessorCheck (local n) (now p)) (change n (localNumber (now p))), predecessorEnd (local n) (now p)))
 unfolding predecessorChange
 predecessor-determined = determined (λ κ a. tt) (λ κ a r s. exact-both (numbered-exact r _) Iff·rfl)
+
+pub move-by-determined : Determined (Outcome × List ℕ) move-by.Pre move-by.Post (λ κ r (_, (_, (q, _))). (r, now q))
+    (λ κ (n, (d, (p, _))). (moveCheck (local n) d (now p), moveEnd (local n) d (now p)))
+unfolding moveReply
+move-by-determined = determined (λ κ a. tt) (λ κ a r s. exact-both (outcome-exact r _) Iff·rfl)
 
 pub head-determined : Determined Part head.Pre head.Post (λ κ r s. (ptr r, now r)) (λ κ (n, (p, _)). (ptr p, headPart n (now p)))
 head-determined = determined (λ κ a. tt) (λ κ a r s. exact-both Iff·rfl Iff·rfl)
