@@ -1,6 +1,9 @@
 // A line's fields, with single spaces between them, and what they stand for: words, numbers, places, entries, and bytes.
+ghost use mathlib.Core.Path.{_≡_};
+ghost use mathlib.Core.Bool.{true};
 ghost use Prim.Native.Nat.{_≤_};
 ghost use lib.ListN.{length};
+ghost use lib.Signed.{nonNeg};
 ghost use Rattle.io.specs.Counts.{Counts};
 
 // The k-th field, from 0; empty where the line has fewer.
@@ -77,6 +80,45 @@ fn digits(text: &[u8]) -> u64 {
         i += 1;
     }
     value
+}
+
+// The k-th field as a signed decimal number; the farthest from 0 there is where it is farther than that.
+pub fn distance(line: &[u8], k: usize) -> i64 {
+    let text = field(line, k);
+    if text.len() == 0 {
+        return 0;
+    }
+    if text[0] == b'-' {
+        return signed(true, digits(&text[1..]));
+    }
+    signed(false, digits(text))
+}
+
+// So far back or on; the farthest there is where it is farther than that.
+pub fn signed(is_back: bool, by: u64) -> i64 {
+    if !is_back {
+        return onward(by);
+    }
+    if by == 0 {
+        return 0;
+    }
+    backward(onward(by - 1))
+}
+
+fn onward(by: u64) -> i64
+    ensures { λ r. ⌜ nonNeg r ≡ true ⌝ }
+{
+    if by > 9223372036854775807 {
+        return 9223372036854775807;
+    }
+    by as i64
+}
+
+// One farther back than `less` is on: so far the least signed number is too, and its opposite would not fit.
+fn backward(less: i64) -> i64
+    requires { ⌜ nonNeg less ≡ true ⌝ }
+{
+    -1 - less
 }
 
 // The places that a text shows, one by a digit, 255 by x, and none at all by -. Answers how many there was room for.

@@ -54,9 +54,11 @@ pub const WRITE: usize = 20;
 
 pub const READ: usize = 21;
 
+pub const MOVE: usize = 22;
+
 pub fn name(label: usize) {
     word(field(
-        b"check number depth head later shape is on back to_pattern to_permutation start handed places change size next end figure count write read",
+        b"check number depth head later shape is on back to_pattern to_permutation start handed places change size next end figure count write read move",
         label,
     ));
 }
@@ -87,6 +89,19 @@ pub fn holds_entries(label: usize, got: &[u16], expected: &[u8]) {
     let mut text = [0u8; 216];
     let count = spell_entries(got, &mut text);
     shows(label, &text[..count], expected);
+}
+
+// Whether the text shows these places: for a case of so many answers that only the wrong ones are printed.
+pub fn are_places(got: &[u8], expected: &[u8]) -> bool {
+    let mut text = [0u8; 72];
+    let count = spell(got, &mut text);
+    check::same(&text[..count], expected)
+}
+
+pub fn are_entries(got: &[u16], expected: &[u8]) -> bool {
+    let mut text = [0u8; 216];
+    let count = spell_entries(got, &mut text);
+    check::same(&text[..count], expected)
 }
 
 // Expects the bytes that the text shows, written as entries are.
@@ -251,5 +266,13 @@ pub fn number_of(got: Numbered) -> u64 {
     match got {
         Numbered::Value(number) => number,
         Numbered::Refused(_) => 0,
+    }
+}
+
+// The refusal, and 0 for none.
+pub fn refusal_of(got: Outcome) -> u64 {
+    match got {
+        Outcome::Done => 0,
+        Outcome::Refused(given) => given.number(),
     }
 }
