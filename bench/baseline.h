@@ -10,6 +10,7 @@ spire_reply c_pattern_number(size_t size, const uint8_t *places, size_t count);
 spire_reply c_pattern_shape(size_t size, uint64_t number, uint8_t *places, size_t count);
 spire_reply c_pattern_successor(size_t size, uint8_t *places, size_t count);
 spire_reply c_pattern_predecessor(size_t size, uint8_t *places, size_t count);
+spire_reply c_pattern_move(size_t size, int64_t distance, uint8_t *places, size_t count);
 spire_reply c_pattern_depth(size_t size, const uint8_t *places, size_t count);
 spire_part c_pattern_head(size_t size, const uint8_t *places, size_t count);
 spire_part c_pattern_later(
@@ -20,6 +21,7 @@ spire_reply c_permutation_number(size_t size, const uint16_t *entries, size_t co
 spire_reply c_permutation_shape(size_t size, uint64_t number, uint16_t *entries, size_t count);
 spire_reply c_permutation_successor(size_t size, uint16_t *entries, size_t count);
 spire_reply c_permutation_predecessor(size_t size, uint16_t *entries, size_t count);
+spire_reply c_permutation_move(size_t size, int64_t distance, uint16_t *entries, size_t count);
 
 spire_reply c_to_permutation(
     size_t size, const uint8_t *places, size_t places_count, uint16_t *entries, size_t entries_count);

@@ -44,6 +44,14 @@ spire_reply c_pattern_predecessor(size_t size, uint8_t *places, size_t count)
     return change ? answered(change) : refused(REFUSED_FIRST);
 }
 
+spire_reply c_pattern_move(size_t size, int64_t distance, uint8_t *places, size_t count)
+{
+    uint64_t fault = pattern_fault(size, places, count);
+    if (fault)
+        return refused(fault);
+    return pattern_move(size, distance, places) ? answered(0) : refused(end_past(distance));
+}
+
 spire_reply c_pattern_depth(size_t size, const uint8_t *places, size_t count)
 {
     uint64_t fault = pattern_fault(size, places, count);

@@ -136,3 +136,16 @@ spire_reply c_permutation_predecessor(size_t size, uint16_t *entries, size_t cou
         return refused(fault);
     return part_previous(0, entries, size) ? answered(0) : refused(REFUSED_FIRST);
 }
+
+/* A target below 0 wraps, and is then above any number of shapes. */
+spire_reply c_permutation_move(size_t size, int64_t distance, uint16_t *entries, size_t count)
+{
+    uint64_t fault = permutation_fault(size, entries, count);
+    if (fault)
+        return refused(fault);
+    uint64_t target = part_number(0, entries, size) + (uint64_t)distance;
+    if (target >= catalans[size])
+        return refused(end_past(distance));
+    part_shape(0, target, entries, size);
+    return answered(0);
+}

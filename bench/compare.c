@@ -16,6 +16,7 @@
     X(pattern_shape, PATTERNS, "0125") \
     X(pattern_successor, PATTERNS, "012346") \
     X(pattern_predecessor, PATTERNS, "012347") \
+    X(pattern_move, PATTERNS, "0123467") \
     X(pattern_depth, PATTERNS, "01234") \
     X(pattern_head, PATTERNS, "01") \
     X(pattern_later, PATTERNS, "01") \
@@ -24,6 +25,7 @@
     X(permutation_shape, PERMUTATIONS, "0125") \
     X(permutation_successor, PERMUTATIONS, "012346") \
     X(permutation_predecessor, PERMUTATIONS, "012347") \
+    X(permutation_move, PERMUTATIONS, "0123467") \
     X(to_permutation, FORMS, "01234") \
     X(to_pattern, FORMS, "01234") \
     X(run_start, RUNS, "018") \
@@ -67,6 +69,7 @@ struct slice {
 static struct {
     size_t size;
     uint64_t number;
+    int64_t distance;
     uint64_t end;
     spire_run run;
     spire_sheet sheet;
@@ -124,7 +127,7 @@ static void show_sheet(const spire_sheet *sheet)
 static void differ(enum call call, const char *what, uint64_t rattle, uint64_t c)
 {
     printf("%s: %s: Rattle %" PRIu64 ", C %" PRIu64 "\n", calls[call].name, what, rattle, c);
-    printf("size %zu, number or first %" PRIu64 ", end %" PRIu64 "\n", in.size, in.number, in.end);
+    printf("size %zu, number or first %" PRIu64 ", distance %" PRId64 ", end %" PRIu64 "\n", in.size, in.number, in.distance, in.end);
     if (calls[call].group == RUNS) {
         show_run("run", &in.run);
     } else if (call == sheet_fill) {
@@ -197,6 +200,16 @@ static void same_reply(enum call call, enum written written, spire_reply rattle,
     settle(call, c.refusal, written);
 }
 
+/* A move by what it means: the refusal and the number that the target tells, worked out with room for its sign. `before` and `after` are
+   what the number call says of the slice before the move and after it. */
+static void same_target(enum call call, spire_reply before, spire_reply moved, spire_reply after)
+{
+    __int128 target = (__int128)before.value + in.distance;
+    uint64_t refusal = before.refusal ? before.refusal : target < 0 ? 7 : target >= catalan(in.size) ? 6 : 0;
+    same(call, "refusal and that of the target", moved.refusal, refusal);
+    same(call, "number and that of the target", after.value, refusal ? before.value : (uint64_t)target);
+}
+
 static void same_part(enum call call, spire_part rattle, spire_part c)
 {
     same(call, "slice", rattle.slice, c.slice);
@@ -253,15 +266,24 @@ static uint16_t *entries(struct slice *slice, enum side side)
 }
 
 #define PLACES(side) in.size, bytes(&in.first, side), in.first.count
+#define MOVED_PLACES(side) in.size, in.distance, bytes(&in.first, side), in.first.count
 #define NUMBERED_PLACES(side) in.size, in.number, bytes(&in.first, side), in.first.count
 #define TWO_PLACES(side) PLACES(side), bytes(&in.second, side), in.second.count
 #define ENTRIES(side) in.size, entries(&in.first, side), in.first.count
+#define MOVED_ENTRIES(side) in.size, in.distance, entries(&in.first, side), in.first.count
 #define NUMBERED_ENTRIES(side) in.size, in.number, entries(&in.first, side), in.first.count
 #define PLACES_TO_ENTRIES(side) PLACES(side), entries(&in.second, side), in.second.count
 #define ENTRIES_TO_PLACES(side) ENTRIES(side), bytes(&in.second, side), in.second.count
 #define BYTES_TO_PLACES(side) bytes(&in.first, side), in.first.count, bytes(&in.second, side), in.second.count
 
 #define REPLY(call, written, ARGUMENTS) same_reply(call, written, spire_##call(ARGUMENTS(RATTLE)), c_##call(ARGUMENTS(C)))
+#define MOVE(call, number, ARGUMENTS, READ) \
+    do { \
+        spire_reply before = c_##number(READ(C)); \
+        spire_reply rattle = spire_##call(ARGUMENTS(RATTLE)), c = c_##call(ARGUMENTS(C)); \
+        same_target(call, before, c, c_##number(READ(C))); \
+        same_reply(call, FIRST, rattle, c); \
+    } while (0)
 #define PART(call, ARGUMENTS) same_part(call, spire_##call(ARGUMENTS(RATTLE)), c_##call(ARGUMENTS(C)))
 
 static void fill_places(struct slice *slice, size_t n)
@@ -287,6 +309,7 @@ static void compare_patterns(size_t n)
     REPLY(pattern_shape, FIRST, NUMBERED_PLACES);
     REPLY(pattern_successor, FIRST, PLACES);
     REPLY(pattern_predecessor, FIRST, PLACES);
+    MOVE(pattern_move, pattern_number, MOVED_PLACES, PLACES);
     REPLY(pattern_depth, NEITHER, PLACES);
     PART(pattern_head, PLACES);
     PART(pattern_later, TWO_PLACES);
@@ -304,6 +327,7 @@ static void compare_permutations(size_t n)
     REPLY(permutation_shape, FIRST, NUMBERED_ENTRIES);
     REPLY(permutation_successor, FIRST, ENTRIES);
     REPLY(permutation_predecessor, FIRST, ENTRIES);
+    MOVE(permutation_move, permutation_number, MOVED_ENTRIES, ENTRIES);
 }
 
 static void compare_forms(size_t n)
@@ -478,6 +502,7 @@ int main(void)
         for (int round = 0; round < ROUNDS; round++) {
             in.size = any_size(n);
             in.number = any_number(n);
+            in.distance = any_distance(n);
             compare_patterns(n);
             compare_permutations(n);
             compare_forms(n);

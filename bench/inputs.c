@@ -85,6 +85,24 @@ uint64_t any_number(size_t n)
     }
 }
 
+/* Mostly one that leads from some shapes to others, on as often as back. */
+int64_t any_distance(size_t n)
+{
+    uint64_t total = catalan(n);
+    int64_t direction = below(2) ? 1 : -1;
+    switch (below(12)) {
+    case 0: return 0;
+    case 1: return direction;
+    case 2: return INT64_MIN + (int64_t)below(3);
+    case 3: return INT64_MAX - (int64_t)below(3);
+    case 4: return direction * (int64_t)(total - 1 + below(3));
+    case 5: return (int64_t)draw();
+    case 6: return direction * (int64_t)below(1000);
+    case 7: return direction * (int64_t)below(total < 100 ? total : 100);
+    default: return direction * (int64_t)below(total);
+    }
+}
+
 uint64_t any_figure(void)
 {
     switch (below(4)) {

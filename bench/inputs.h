@@ -18,6 +18,7 @@ uint64_t catalan(size_t n);
 size_t any_size(size_t n);
 size_t any_count(size_t right);
 uint64_t any_number(size_t n);
+int64_t any_distance(size_t n);
 uint64_t any_figure(void);
 
 /* Room for MOST elements each; what is behind the contents is noise. About half of them are damaged. */

@@ -17,6 +17,7 @@
 enum { INPUTS = 512, ROUNDS = 300, ROOM = 70 };
 
 struct inputs {
+    uint64_t third;
     uint64_t numbers[INPUTS];
     uint8_t places[INPUTS][ROOM];
     uint16_t entries[INPUTS][ROOM / 2];
@@ -47,42 +48,53 @@ static uint64_t of_stepped(spire_stepped stepped)
     return stepped.change + (stepped.refusal << 32);
 }
 
-/* Each call: its name, what is kept of its answer, its arguments for size n and input i. */
+/* Towards the middle of the list: on from the lower half of the numbers, and back from the upper. */
+static int64_t towards(size_t i, uint64_t by)
+{
+    return i < INPUTS / 2 ? (int64_t)by : -(int64_t)by;
+}
+
+/* Each row: its name, the call, what is kept of its answer, its arguments for size n and input i. A move is long by a third of the list. */
 #define CALLS(X) \
-    X(pattern_check, of_reply, (n, in.places[i], 2 * n)) \
-    X(pattern_number, of_reply, (n, in.places[i], 2 * n)) \
-    X(pattern_shape, of_reply, (n, in.numbers[i], in.places[i], 2 * n)) \
-    X(pattern_successor, of_reply, (n, in.places[i], 2 * n)) \
-    X(pattern_predecessor, of_reply, (n, in.places[i], 2 * n)) \
-    X(pattern_depth, of_reply, (n, in.places[i], 2 * n)) \
-    X(pattern_head, of_part, (n, in.places[i], 2 * n)) \
-    X(pattern_later, of_part, (n, in.places[i], 2 * n, in.places[i / 2], 2 * n)) \
-    X(permutation_check, of_reply, (n, in.entries[i], n)) \
-    X(permutation_number, of_reply, (n, in.entries[i], n)) \
-    X(permutation_shape, of_reply, (n, in.numbers[i], in.entries[i], n)) \
-    X(permutation_successor, of_reply, (n, in.entries[i], n)) \
-    X(permutation_predecessor, of_reply, (n, in.entries[i], n)) \
-    X(to_permutation, of_reply, (n, in.places[i], 2 * n, in.entries[i], n)) \
-    X(to_pattern, of_reply, (n, in.entries[i], n, in.places[i], 2 * n)) \
-    X(run_start, of_started, (n, in.numbers[i], in.numbers[i] + 1)) \
-    X(run_step, of_stepped, (in.runs[i])) \
-    X(record_write, of_reply, (n, in.places[i], 2 * n, in.bytes[i], 1 + (n + 3) / 4)) \
-    X(record_read, of_reply, (in.bytes[i], 1 + (n + 3) / 4, in.places[i], 2 * n))
+    X(pattern_check, pattern_check, of_reply, (n, in.places[i], 2 * n)) \
+    X(pattern_number, pattern_number, of_reply, (n, in.places[i], 2 * n)) \
+    X(pattern_shape, pattern_shape, of_reply, (n, in.numbers[i], in.places[i], 2 * n)) \
+    X(pattern_successor, pattern_successor, of_reply, (n, in.places[i], 2 * n)) \
+    X(pattern_predecessor, pattern_predecessor, of_reply, (n, in.places[i], 2 * n)) \
+    X(pattern_move_by_40, pattern_move, of_reply, (n, towards(i, 40), in.places[i], 2 * n)) \
+    X(pattern_move_by_1000, pattern_move, of_reply, (n, towards(i, 1000), in.places[i], 2 * n)) \
+    X(pattern_move_long, pattern_move, of_reply, (n, towards(i, in.third), in.places[i], 2 * n)) \
+    X(pattern_depth, pattern_depth, of_reply, (n, in.places[i], 2 * n)) \
+    X(pattern_head, pattern_head, of_part, (n, in.places[i], 2 * n)) \
+    X(pattern_later, pattern_later, of_part, (n, in.places[i], 2 * n, in.places[i / 2], 2 * n)) \
+    X(permutation_check, permutation_check, of_reply, (n, in.entries[i], n)) \
+    X(permutation_number, permutation_number, of_reply, (n, in.entries[i], n)) \
+    X(permutation_shape, permutation_shape, of_reply, (n, in.numbers[i], in.entries[i], n)) \
+    X(permutation_successor, permutation_successor, of_reply, (n, in.entries[i], n)) \
+    X(permutation_predecessor, permutation_predecessor, of_reply, (n, in.entries[i], n)) \
+    X(permutation_move_by_40, permutation_move, of_reply, (n, towards(i, 40), in.entries[i], n)) \
+    X(permutation_move_long, permutation_move, of_reply, (n, towards(i, in.third), in.entries[i], n)) \
+    X(to_permutation, to_permutation, of_reply, (n, in.places[i], 2 * n, in.entries[i], n)) \
+    X(to_pattern, to_pattern, of_reply, (n, in.entries[i], n, in.places[i], 2 * n)) \
+    X(run_start, run_start, of_started, (n, in.numbers[i], in.numbers[i] + 1)) \
+    X(run_step, run_step, of_stepped, (in.runs[i])) \
+    X(record_write, record_write, of_reply, (n, in.places[i], 2 * n, in.bytes[i], 1 + (n + 3) / 4)) \
+    X(record_read, record_read, of_reply, (in.bytes[i], 1 + (n + 3) / 4, in.places[i], 2 * n))
 
 typedef uint64_t loop(size_t n);
 
-#define LOOP(side, call, kept, arguments) \
-    static uint64_t side##_##call##_loop(size_t n) \
+#define LOOP(side, row, call, kept, arguments) \
+    static uint64_t side##_##row##_loop(size_t n) \
     { \
         uint64_t sum = 0; \
         for (size_t i = 0; i < INPUTS; i++) \
             sum += kept(side##_##call arguments); \
         return sum + n; \
     }
-#define LOOPS(call, kept, arguments) LOOP(spire, call, kept, arguments) LOOP(c, call, kept, arguments)
+#define LOOPS(row, call, kept, arguments) LOOP(spire, row, call, kept, arguments) LOOP(c, row, call, kept, arguments)
 CALLS(LOOPS)
 
-#define AS_ROW(call, kept, arguments) {#call, spire_##call##_loop, c_##call##_loop},
+#define AS_ROW(row, call, kept, arguments) {#row, spire_##row##_loop, c_##row##_loop},
 static const struct {
     const char *name;
     loop *rattle;
@@ -96,6 +108,7 @@ static void make_inputs(size_t n)
     uint64_t total = 1;
     for (uint64_t k = 0; k < n; k++)
         total = total / (k + 2) * (4 * k + 2) + total % (k + 2) * (4 * k + 2) / (k + 2);
+    made.third = total / 3;
     for (size_t i = 0; i < INPUTS; i++) {
         uint64_t number = total / (INPUTS + 2) * (i + 1);
         made.numbers[i] = number;

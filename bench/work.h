@@ -41,6 +41,12 @@ static inline spire_reply answered(uint64_t value)
     return (spire_reply){.value = value};
 }
 
+/* What a move tells that comes to no shape. */
+static inline uint64_t end_past(int64_t distance)
+{
+    return distance < 0 ? REFUSED_FIRST : REFUSED_LAST;
+}
+
 /* Sizes 1 to 35 are in range: 0 wraps to the largest number. */
 static inline bool sized(size_t size)
 {

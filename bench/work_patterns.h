@@ -68,17 +68,15 @@ static inline uint64_t pattern_number(size_t size, const uint8_t *places)
     return number;
 }
 
-static inline void pattern_shape(size_t size, uint64_t number, uint8_t *places)
+/* The places from `start` on, by the number of their word; the row is that of one 0 fewer than are left. */
+static inline void put_numbered(size_t size, uint8_t *places, size_t start, size_t ones, size_t zeros, uint64_t number, uint64_t *row)
 {
-    uint64_t row[LARGEST_SIZE + 1] = {1};
-    for (size_t zeros = 0; zeros < size - 1; zeros++)
-        grow(zeros, row);
-    size_t ones = size, after = size - 1, i = 0;
+    size_t i = start;
     while (ones > 0) {
         uint64_t ways = row[ones];
         if (number < ways) {
             places[i++] = 0;
-            shrink(after--, row);
+            shrink(--zeros, row);
         } else {
             places[i++] = 1;
             number -= ways;
@@ -87,6 +85,36 @@ static inline void pattern_shape(size_t size, uint64_t number, uint8_t *places)
     }
     while (i < 2 * size)
         places[i++] = 0;
+}
+
+static inline void pattern_shape(size_t size, uint64_t number, uint8_t *places)
+{
+    uint64_t row[LARGEST_SIZE + 1] = {1};
+    for (size_t zeros = 0; zeros < size - 1; zeros++)
+        grow(zeros, row);
+    put_numbered(size, places, 0, size, size, number, row);
+}
+
+/* From the last place to the first, until the places passed have a word of their own at the target, which wraps where it is below 0. Those
+   before them stay. */
+static inline bool pattern_move(size_t size, int64_t distance, uint8_t *places)
+{
+    uint64_t row[LARGEST_SIZE + 1] = {1};
+    uint64_t target = (uint64_t)distance;
+    size_t ones = 0, zeros = 0, start = 2 * size;
+    while (target >= row[ones]) {
+        if (start == 0)
+            return false;
+        if (places[--start]) {
+            target += row[ones + 1] - row[ones];
+            ones++;
+        } else {
+            grow(zeros++, row);
+        }
+    }
+    shrink(zeros, row);
+    put_numbered(size, places, start, ones, zeros, target, row);
+    return true;
 }
 
 /* Where the block of equal places that ends before `end` begins. */
