@@ -133,7 +133,7 @@ module _ (n : ℕ) (p : List ℕ) (g : Feasible n p) (small : n ≤ largestSize)
         sought-one r e =
             let added : getD row (a + 1) 0 - getD row a 0 ≡ words (before .0) (suc a) = omega (arith, raised) in
             let number : localNumber (drop i p) + words (before .0) (suc a) ≡ localNumber (drop (i - 1) p) =
-              rw here-one (omega (arith, number-one (subst (λ (e : ℕ). Word e a (drop i p)) (before .1) (m .word))))
+            rw here-one (omega (arith, number-one (subst (λ (e : ℕ). Word e a (drop i p)) (before .1) (m .word))))
             in
             record {
               left = omega (arith, m .left);

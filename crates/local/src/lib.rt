@@ -91,7 +91,14 @@ pub fn move_by(size: usize, distance: i64, places: &mut [u8]) -> bool
 
 // The places from `start` on, from the first of them to the last: a 0 stands where the number is among the ways to finish after it. The row
 // of those ways loses a 0 with each 0 that is placed. Once no 1 is left, the rest is zeros.
-fn put_numbered(places: &mut [u8], start: usize, ones: usize, zeros: usize, number: u64, row: &mut [u64])
+fn put_numbered(
+    places: &mut [u8],
+    start: usize,
+    ones: usize,
+    zeros: usize,
+    number: u64,
+    row: &mut [u64],
+)
     requires { ⌜ (start + (ones + zeros) ≡ length (now places)) × (ones ≤ zeros) × (zeros ≤ largestSize) ⌝ }
     requires { ⌜ (number < ways ones zeros) × (now row ≡ rowOf (zeros - 1)) ⌝ }
     ensures { λ _. ⌜ now (places .exit) ≡ take start (now (places .entry)) ++ localPlaces (ones + zeros) ones zeros number ⌝ }

@@ -3,6 +3,7 @@
 -- Assumes nothing.
 use mathlib.Core.Path.{_≡_}
 use lib.ListN.{length}
+use native.Mathlib.Nat.{le-of-lt}
 use borrow.Author.Needs.{needs}
 use Rattle.catalan.specs.Table.{rowOf}
 use Rattle.catalan.proofs.Rows.{row-start, row-long}
@@ -13,6 +14,7 @@ use Rattle.local.proofs.move_by.Tie as tie
 
 ruleset turn = (
   needs,
+  le-of-lt,
   row-start,
   row-long,
   sought-none,
