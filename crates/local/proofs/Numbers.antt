@@ -34,6 +34,7 @@ use Rattle.shape.proofs.Writing.{written-next, from-before}
 use Rattle.shape.proofs.Counts.{count-split}
 use Rattle.shape.proofs.Patterns.{Word, done, zero-next, one-next, word-length, feasible-word, feasible-length}
 use Rattle.shape.proofs.LocalNumbers.{next-zero, next-one, local-lawful}
+use Rattle.local.specs.Places.{endNumbered}
 
 -- ---- the number of places
 
@@ -151,28 +152,34 @@ pub record Placing (q p : List ℕ) (i r a b : ℕ) : Type 0 where
   pub below : r < ways a b
   pub places : take i p ++ localPlaces (a + b) a b r ≡ q
 
-pub placing-none : (p : List ℕ) (i r a b : ℕ) → i + (a + b) ≡ length p → a ≤ b → b ≤ largestSize → r < ways a b
-    → Placing (take i p ++ localPlaces (a + b) a b r) p i r a b
-placing-none p i r a b left ones zeros below = record { left = left; ones = ones; zeros = zeros; below = below; places = refl }
+pub placing-none : (p : List ℕ) (r a b : ℕ) → a + b ≤ length p → a ≤ b → b ≤ largestSize → r < ways a b
+    → Placing (endNumbered a b r p) p (length p - a - b) r a b
+unfolding endNumbered
+placing-none p r a b last ones zeros below =
+    let start : length p - (a + b) ≡ length p - a - b = omega arith in
+    record { left = omega arith; ones = ones; zeros = zeros; below = below; places = rw start }
 
 pub ways-whole : (n k : ℕ) → k < C n → k < ways n n
 ways-whole n k h = rw (← C-ways n) h
 
-pub placed-pattern : (n k : ℕ) (p q : List ℕ) → q ≡ take 0 p ++ localPlaces (n + n) n n k → q ≡ localPattern n k
-unfolding localPattern
-placed-pattern n k p q e = let twice : n + n ≡ 2 * n = omega arith in e ∙ ap (λ (i : ℕ). localPlaces i n n k) twice
+pub placed-pattern : (n k : ℕ) (p q : List ℕ) → length p ≡ 2 * n → q ≡ endNumbered n n k p → q ≡ localPattern n k
+unfolding endNumbered localPattern
+placed-pattern n k p q long e =
+    let twice : n + n ≡ 2 * n = omega arith in
+    let none : length p - (n + n) ≡ 0 = omega arith in
+    e ∙ rw (none, twice)
 
 zeros-places : (i b : ℕ) → localPlaces i 0 b 0 ≡ replicate i 0
 zeros-places zero b = unfold localPlaces in refl
 zeros-places (suc i) b = next-zero i 0 b 0 (ways-positive 0 (b - 1) (omega arith)) ∙ ap {B = List ℕ} (λ v. 0 ∷ v) (zeros-places i (b - 1))
 
 module _ (q p : List ℕ) (i r a b : ℕ) (m : Placing q p i r a b) where
-  pub placing-all : (v : List ℕ) → a ≤ 0 → v ≡ take i p ++ (replicate (length p - i) 0 ++ drop (length p) p) → v ≡ q
-  placing-all v h e =
+  pub placing-all : (v : List ℕ) (end : ℕ) → a ≤ 0 → end ≡ length p → v ≡ take i p ++ (replicate (end - i) 0 ++ drop end p) → v ≡ q
+  placing-all v end h all e =
       let none : a ≡ 0 = omega arith in
       let first : r ≡ 0 = omega (arith, rw none at (m .below), ways-words 0 b (b + 1) (omega arith), words-one (b + 1)) in
-      let rest : length p - i ≡ b = omega (arith, m .left) in
-      let past : drop (length p) p ≡ [] = drop-of-length-le p {i = length p} (omega arith) in
+      let rest : end - i ≡ b = omega (arith, m .left) in
+      let past : drop end p ≡ [] = drop-of-length-le p {i = end} (omega arith) in
       e ∙ rw (past, rest, append-nil {A = ℕ}, sym (zeros-places b b)) (rw (none, first, zero-add) at (m .places))
 
   module _ (row : List ℕ) (w : row ≡ rowOf (b - 1)) (some : 0 < a) where

@@ -36,7 +36,7 @@ use Rattle.shape.proofs.LocalNumbers.{HasNumber, number-one, number-zero, word-
 use Rattle.shape.proofs.Neighbours.{behind, word-same, swapped, swapped-number}
 use Rattle.distance.proofs.Sums.{sum-on, sum-reached}
 use Rattle.distance.proofs.Reaching.{sum-stops}
-use Rattle.local.specs.Places.{movedPattern}
+use Rattle.local.specs.Places.{endNumbered, movedPattern}
 
 pub record Sought (n : ℕ) (p : List ℕ) (z i t a b : ℕ) : Type 0 where
   pub left : i + (a + b) ≡ length p
@@ -216,9 +216,11 @@ module _ (n : ℕ) (p : List ℕ) (g : Feasible n p) (small : n ≤ largestSize)
     unfolding moved target
     there-moved = rw (sym there-number) (sym (local-lawful n .shape-number there there-formed))
 
-    pub target-put : (x : List ℕ) → x ≡ take i p ++ localPlaces (a + b) a b t → x ≡ movedPattern n d p
-    unfolding movedPattern
-    target-put x e = e ∙ there-moved ∙ rw (sym target-reached)
+    pub target-put : (x : List ℕ) → x ≡ endNumbered a b t p → x ≡ movedPattern n d p
+    unfolding endNumbered movedPattern
+    target-put x e =
+        let start : length p - (a + b) ≡ i = omega (arith, m .left) in
+        e ∙ rw start (there-moved ∙ rw (sym target-reached))
 
   module _ (first : i ≡ 0) (h : getD row a 0 ≤ t) where
     all : drop i p ≡ p

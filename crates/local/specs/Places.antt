@@ -4,16 +4,17 @@
 --     everySecond x p        p with x at its first place, its third, and so on
 --     nextChange, nextPattern             one step on, with its change; 0, and the pattern as it is, for the last
 --     previousChange, previousPattern     one step back, with the change that it takes back; 0, and the pattern as it is, for the first
+--     endNumbered a b k p    p with its last places by their number: a word of a ones and b zeros
 --     movedPattern           a move by a distance; the pattern as it is where that leads past an end
 -- Assumes nothing.
 use mathlib.Core.Bool.{cond}
-use mathlib.Core.List.{List, [], _∷_}
-use Prim.Native.Nat.{ℕ, zero, suc, _+_}
+use mathlib.Core.List.{List, [], _∷_, _++_}
+use Prim.Native.Nat.{ℕ, zero, suc, _+_, _-_}
 use lib.Dec.{eqb, ltb}
-use lib.ListN.{getD}
+use lib.ListN.{length, getD, take}
 use lib.IntN.{ℤ}
 use Rattle.catalan.specs.Count.{C}
-use Rattle.shape.specs.Number.{localNumber, change}
+use Rattle.shape.specs.Number.{localNumber, localPlaces, change}
 use Rattle.shape.specs.Numbering.{local, next, previous}
 use Rattle.shape.specs.Move.{reaches, moved}
 
@@ -44,6 +45,10 @@ previousChange n p = cond (ltb 0 (localNumber p)) (change n (localNumber p)) 0
 
 unfoldable pub previousPattern : ℕ → List ℕ → List ℕ
 previousPattern n p = cond (ltb 0 (localNumber p)) (previous (local n) p) p
+
+-- The last places, a ones and b zeros, worked out from the number k; those before them stay.
+unfoldable pub endNumbered : ℕ → ℕ → ℕ → List ℕ → List ℕ
+endNumbered a b k p = take (length p - (a + b)) p ++ localPlaces (a + b) a b k
 
 -- 02, T-01: the shape at a distance, and the pattern as it is where there is none.
 unfoldable pub movedPattern : ℕ → ℤ → List ℕ → List ℕ

@@ -21,7 +21,7 @@ ghost use Rattle.shape.specs.Number.{localNumber, localPlaces, localPattern, de
 ghost use Rattle.shape.specs.Numbering.{local};
 ghost use Rattle.shape.specs.Move.{reaches};
 ghost use Rattle.shape.specs.Faults.{firstFault};
-ghost use Rattle.local.specs.Places.{movedPattern};
+ghost use Rattle.local.specs.Places.{endNumbered, movedPattern};
 
 // From the last place to the first, since a 1 asks for the ways to finish what stands after it with one 0 fewer: that row grows by one 0
 // at a time, and is held for one 0 fewer than have been passed. The last place is a 0, and asks for nothing.
@@ -54,7 +54,7 @@ pub fn shape(size: usize, number: u64, places: &mut [u8])
 {
     let mut row = [0u64; 36];
     catalan::fill(size - 1, &mut row);
-    put_numbered(places, 0, size, size, number, &mut row);
+    put_numbered(places, size, size, number, &mut row);
 }
 
 // The shape at the distance, put in the place of this one, and whether there is one. From the last place to the first, as number goes, and
@@ -85,28 +85,25 @@ pub fn move_by(size: usize, distance: i64, places: &mut [u8]) -> bool
         }
     }
     catalan::shrink(zeros, &mut row);
-    put_numbered(places, start, ones, zeros, target, &mut row);
+    put_numbered(places, ones, zeros, target, &mut row);
     true
 }
 
-// The places from `start` on, from the first of them to the last: a 0 stands where the number is among the ways to finish after it. The row
-// of those ways loses a 0 with each 0 that is placed. Once no 1 is left, the rest is zeros.
+// The last places, so many ones and zeros, from the first of them to the last: a 0 stands where the number is among the ways to finish after
+// it. The row of those ways loses a 0 with each 0 that is placed. Once no 1 is left, the rest is zeros.
 fn put_numbered(
     places: &mut [u8],
-    start: usize,
-    ones: usize,
-    zeros: usize,
-    number: u64,
+    mut ones: usize,
+    mut zeros: usize,
+    mut number: u64,
     row: &mut [u64],
 )
-    requires { ⌜ (start + (ones + zeros) ≡ length (now places)) × (ones ≤ zeros) × (zeros ≤ largestSize) ⌝ }
+    requires { ⌜ (ones + zeros ≤ length (now places)) × (ones ≤ zeros) × (zeros ≤ largestSize) ⌝ }
     requires { ⌜ (number < ways ones zeros) × (now row ≡ rowOf (zeros - 1)) ⌝ }
-    ensures { λ _. ⌜ now (places .exit) ≡ take start (now (places .entry)) ++ localPlaces (ones + zeros) ones zeros number ⌝ }
+    ensures { λ _. ⌜ now (places .exit) ≡ endNumbered ones zeros number (now (places .entry)) ⌝ }
 {
-    let mut number = number;
-    let mut ones = ones;
-    let mut zeros = zeros;
-    let mut i = start;
+    let end = places.len();
+    let mut i = end - ones - zeros;
     while ones > 0 {
         let ways = row[ones];
         if number < ways {
@@ -121,7 +118,6 @@ fn put_numbered(
             i += 1;
         }
     }
-    let end = places.len();
     steps::put(places, 0, i, end);
 }
 

@@ -2,13 +2,12 @@
 -- the number, and the row is that of the zeros after the next.
 -- Assumes nothing.
 use mathlib.Core.Path.{_≡_}
-use mathlib.Core.List.{_++_}
 use Prim.Native.Nat.{_+_, _-_}
-use lib.ListN.{length, take}
+use lib.ListN.{length}
 use borrow.Author.Needs.{needs}
 use Rattle.catalan.specs.Table.{rowOf}
 use Rattle.catalan.proofs.Rows.{row-long}
-use Rattle.shape.specs.Number.{localPlaces}
+use Rattle.local.specs.Places.{endNumbered}
 use Rattle.local.proofs.Numbers.{Placing, placing-none, placing-zero, placing-one, placing-all, zeros-left}
 use Rattle.local.proofs.put_numbered.Statement.{statement}
 use Rattle.local.proofs.put_numbered.Tie as tie
@@ -16,15 +15,16 @@ use Rattle.local.proofs.put_numbered.Tie as tie
 ruleset turn = (needs, row-long, placing-none, placing-zero, placing-one, placing-all, zeros-left)
 
 abbrev Inv-loop : tie.InvT-loop
-Inv-loop places₀ start ones zeros number row₀ number₀ ones₀ zeros₀ i₀ places row left ones′ zeros′ i =
+Inv-loop places₀ ones₀ zeros₀ number₀ row₀ end i₀ places ones zeros number row i =
     (length places ≡ length places₀)
+    × (end ≡ length places)
     × (length row₀ ≡ 36)
     × (length row ≡ 36)
-    × (row ≡ rowOf (zeros′ - 1))
-    × Placing (take start places₀ ++ localPlaces (ones + zeros) ones zeros number) places i left ones′ zeros′
+    × (row ≡ rowOf (zeros - 1))
+    × Placing (endNumbered ones₀ zeros₀ number₀ places₀) places i number ones zeros
 
 abbrev μ-loop : tie.MeasureT-loop
-μ-loop places₀ start ones zeros number row₀ number₀ ones₀ zeros₀ i₀ places row left ones′ zeros′ i = ones′ + zeros′
+μ-loop places₀ ones₀ zeros₀ number₀ row₀ end i₀ places ones zeros number row i = ones + zeros
 
 pub put-numbered-spec : {M : Type 1} → statement M
 put-numbered-spec =
@@ -32,6 +32,10 @@ put-numbered-spec =
     (tie.spec
     Inv-loop
     μ-loop
+    -- sub-i
+    (λ c. search turn)
+    -- sub-i-2
+    (λ c. search turn)
     -- loop-holds
     (λ c. search turn)
     -- mul-ways
