@@ -111,9 +111,8 @@ module _ (n : ℕ) (p : List ℕ) (g : Feasible n p) (small : n ≤ largestSize)
           let (c, k, r) = behind (take (i - 1) p) all in
           opened (subst (Word c k) here-one r) (m .word)
 
-      -- the word with the 1 in front
-      longer : Word (before .0) (suc a) (1 ∷ drop i p)
-      longer = one-next (subst (λ (e : ℕ). Word e a (drop i p)) (before .1) (m .word))
+      inner : Word (suc (before .0)) a (drop i p)
+      inner = subst (λ (e : ℕ). Word e a (drop i p)) (before .1) (m .word)
 
       pub next-within : a + 1 < 36
       next-within = omega (arith, before .1, m .zeros, m .most)
@@ -131,14 +130,13 @@ module _ (n : ℕ) (p : List ℕ) (g : Feasible n p) (small : n ≤ largestSize)
 
         pub sought-one : (r : ℕ) → r ≡ (t + (getD row (a + 1) 0 - getD row a 0)) % 2 ^ 64 → Sought n p z (i - 1) r (a + 1) b
         sought-one r e =
-            let added : getD row (a + 1) 0 - getD row a 0 ≡ words (before .0) (suc a) = omega (arith, raised) in
-            let number : localNumber (drop i p) + words (before .0) (suc a) ≡ localNumber (drop (i - 1) p) =
-            rw here-one (omega (arith, number-one (subst (λ (e : ℕ). Word e a (drop i p)) (before .1) (m .word))))
-            in
+            let more = words (before .0) (suc a) in
+            let added : getD row (a + 1) 0 - getD row a 0 ≡ more = omega (arith, raised) in
+            let number : localNumber (drop i p) + more ≡ localNumber (drop (i - 1) p) = rw here-one (omega (arith, number-one inner)) in
             record {
               left = omega (arith, m .left);
               excess = before .0;
-              word = rw (here-one, add-one) longer;
+              word = rw (here-one, add-one) (one-next inner);
               zeros = omega (arith, m .zeros, before .1);
               most = m .most;
               sum = e ∙ sum-on (localNumber (drop i p)) z _ t (m .sum) ∙ rw (added, number);
