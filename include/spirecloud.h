@@ -69,7 +69,8 @@ typedef struct {
     spire_sheet sheet;
 } spire_filled;
 
-/* Patterns: 2 * size places, each 0 or 1. */
+/* Patterns: 2 * size places, each 0 or 1. A move goes on by a positive distance and back by a negative one, in the local order; that of a
+   permutation, below, in the natural order. */
 spire_reply spire_pattern_check(size_t size, const uint8_t *places, size_t count);
 spire_reply spire_pattern_number(size_t size, const uint8_t *places, size_t count);
 spire_reply spire_pattern_shape(size_t size, uint64_t number, uint8_t *places, size_t count);
