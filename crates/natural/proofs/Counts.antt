@@ -3,13 +3,16 @@
 --     trees-fit                            the trees with j nodes on the left fit 64 bits
 --     fewer-start, fewer-next, fewer-end   the trees with fewer are counted: at the start, after a turn, at the end
 --     fewer-fits                           and fit 64 bits
---     left-start, left-more                the trees with fewer are taken off a number k: at the start, after a turn
+--     left-start, left-first, left-more    the trees with fewer are taken off a number k: none, those with no node on the left, after a turn
+--     left-none, left-some                 whether tree k has no node on the left
+--     right-whole                          the count of right parts that are the whole rest is in the table
 --     left-here, left-last                 what is left is too few for another turn, or there is none: tree k has j nodes on the left
 -- Assumes nothing.
-use mathlib.Core.Path.{_≡_, sym, ap, _∙_}
+use mathlib.Core.Path.{_≡_, refl, sym, ap, _∙_}
 use mathlib.Core.List.{List}
 use Prim.Native.Nat.{ℕ, suc, _+_, _-_, _*_, _≤_, _<_, _^_}
 use native.Mathlib.Nat.{le-refl}
+use native.Mathlib.Decide.{decLe}
 use native.Mathlib.Numerals.{add-one}
 use native.Mathlib.Omega.{arith}
 use lib.ListN.{length, getD}
@@ -73,3 +76,32 @@ module _ (m j rest k : ℕ) (i : fewerLeft m j + rest ≡ k) where
     pub left-more : getD table j 0 * getD table (m - j) 0 ≤ rest
         → fewerLeft m (j + 1) + (rest - getD table j 0 * getD table (m - j) 0) ≡ k
     left-more h = omega (arith, trees-more table e m m j on (le-refl m) small)
+
+-- ---- none of them
+
+module _ (table : List ℕ) (e : table ≡ catalans) (m : ℕ) (small : m < largestSize) where
+  pub right-whole : m < length table
+  right-whole = omega (arith, table-long table e)
+
+  with-none : fewerLeft m 1 ≡ getD table m 0
+  with-none =
+      let one : C 0 ≡ 1 = unfold C in refl in
+      let all : m - 0 ≡ m = omega arith in
+      let trees : C 0 * C (m - 0) ≡ C m = rw (all, one) (omega arith) in
+      fewer-step m 0 ∙ omega (arith, fewer-none m, trees, table-at table m e (omega arith))
+
+  module _ (k : ℕ) where
+    pub left-none : k < getD table m 0 → 0 ≡ leftNodes m m k
+    left-none h = found m 0 k k (left-start m k) (omega arith) (omega (arith, with-none))
+
+    module _ (past : getD table m 0 ≤ k) where
+      pub left-first : fewerLeft m 1 + (k - getD table m 0) ≡ k
+      left-first = omega (arith, with-none)
+
+      pub left-some : k < C (m + 1) → 1 ≤ m
+      left-some below =
+          elim (decLe 1 m) [
+            | yes some ↦ some
+            | no g ↦ let alone : suc m ≡ 1 = omega arith in
+                absurd (omega (arith, rw add-one at below, with-none, fewer-all m, ap (fewerLeft m) alone))
+          ]

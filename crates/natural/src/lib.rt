@@ -1,6 +1,6 @@
-// The work on tree permutations in the natural order. The crate stands below the calls: its functions take what has been checked. Number,
-// shape and steps go by recursion on the left and the right part, which stand one after the other behind the root's label; a part has the
-// labels after its `base`.
+// The work on tree permutations in the natural order. The crate stands below the calls: its functions take what has been checked. Number
+// and steps go by recursion on the left and the right part, which stand one after the other behind the root's label; a part has the labels
+// after its `base`. Shape writes the entries in that same order, in one loop.
 mod forms;
 mod steps;
 
@@ -61,44 +61,65 @@ struct Split {
     rest: u64,
 }
 
-// The number undone: what the trees with a smaller left part leave of it is the left's number in steps of the right parts, and the right's.
-// Where one part is empty, what is left is the other's number, so that there is nothing to divide.
-pub fn shape(catalans: &[u64; 37], base: u16, number: u64, entries: &mut [u16])
-    requires { ⌜ (now catalans ≡ theTable) × (base + length (now entries) ≤ largestSize) × (number < C (length (now entries))) ⌝ }
-    ensures { λ _. ⌜ now (entries .exit) ≡ permutationFrom base (naturalTree (length (now (entries .entry))) number) ⌝ }
+// The number undone, entry by entry: what the trees with a smaller left part leave of a part's number is the left's number in steps of the
+// right parts, and the right's. The left part comes next; until it is written, the right part waits at the entry where it begins, with its
+// base there and its count and number in the same place of the two arrays. Where one part is empty, what is left is the other's number, so
+// that there is nothing to divide; with no left part it is all of it, and half of the parts or more have none.
+pub fn shape(catalans: &[u64; 37], number: u64, entries: &mut [u16])
+    requires { ⌜ (now catalans ≡ theTable) × (length (now entries) ≤ largestSize) × (number < C (length (now entries))) ⌝ }
+    ensures { λ _. ⌜ now (entries .exit) ≡ permutationFrom 0 (naturalTree (length (now (entries .entry))) number) ⌝ }
 {
-    if entries.len() == 0 {
-        return;
+    let mut counts = [0u8; 35];
+    let mut numbers = [0u64; 35];
+    let mut base = 0u16;
+    let mut count = entries.len();
+    let mut number = number;
+    let mut i = 0;
+    while i < entries.len() {
+        if count == 0 {
+            base = entries[i];
+            count = counts[i] as usize;
+            number = numbers[i];
+        } else if number < catalans[count - 1] {
+            base += 1;
+            entries[i] = base;
+            count -= 1;
+            i += 1;
+        } else {
+            let split = left_nodes(catalans, count - 1, number);
+            let right = count - 1 - split.left;
+            let root = base + split.left as u16 + 1;
+            entries[i] = root;
+            i += 1;
+            count = split.left;
+            if right == 0 {
+                number = split.rest;
+            } else {
+                let rights = catalans[right];
+                entries[i + split.left] = root;
+                counts[i + split.left] = right as u8;
+                numbers[i + split.left] = split.rest % rights;
+                number = split.rest / rights;
+            }
+        }
     }
-    let others = entries.len() - 1;
-    let split = left_nodes(catalans, others, number);
-    let right = split.left + 1;
-    let root = base + right as u16;
-    entries[0] = root;
-    if others == 0 {
-        return;
-    }
-    if split.left == 0 {
-        shape(catalans, root, split.rest, &mut entries[right..]);
-        return;
-    }
-    if split.left == others {
-        shape(catalans, base, split.rest, &mut entries[1..right]);
-        return;
-    }
-    let rights = catalans[others - split.left];
-    shape(catalans, base, split.rest / rights, &mut entries[1..right]);
-    shape(catalans, root, split.rest % rights, &mut entries[right..]);
 }
 
-// The trees that have one node more on the left come after all that have as many as here.
+// The trees that have one node more on the left come after all that have as many as here. Those with none there come first, as many as the
+// right parts, and are tested apart: within a caller that has made that test it falls away, and the loop begins behind them.
 fn left_nodes(catalans: &[u64; 37], others: usize, number: u64) -> Split
     requires { ⌜ (now catalans ≡ theTable) × (others < largestSize) × (number < C (others + 1)) ⌝ }
     ensures { λ r. ⌜ r .left ≡ leftNodes others others number ⌝ }
     ensures { λ r. ⌜ fewerLeft others (r .left) + r .rest ≡ number ⌝ }
 {
-    let mut left = 0;
-    let mut rest = number;
+    if number < catalans[others] {
+        return Split {
+            left: 0,
+            rest: number,
+        };
+    }
+    let mut left = 1;
+    let mut rest = number - catalans[others];
     while left < others {
         let trees = catalans[left] * catalans[others - left];
         if rest < trees {

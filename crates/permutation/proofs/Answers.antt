@@ -54,7 +54,7 @@ module _ (n : ℕ) (p : List ℕ) (r : Outcome) (e : r ≡ roomFor permutations 
   pub size-scaled : Fits w64 (n * 8)
   size-scaled = omega (arith, entries-small)
 
-  pub entries-within : 0 + length p ≤ largestSize
+  pub entries-within : length p ≤ largestSize
   entries-within = omega (arith, entries-small, entries-long)
 
   -- a is the table that the code holds

@@ -51,7 +51,7 @@ module _ (n : ℕ) (p : List ℕ) (r : Outcome) (e : outcomeReply r ≡ checkRep
   pub done-scaled : Fits w64 (n * 8)
   done-scaled = omega (arith, small)
 
-  pub done-within : 0 + length p ≤ largestSize
+  pub done-within : length p ≤ largestSize
   done-within = omega (arith, small, long)
 
   -- k is the number that the code found, v what it found the distance to add

@@ -49,7 +49,7 @@ pub fn shape(size: usize, number: u64, entries: &mut [u16]) -> Outcome
             if number >= catalans[size] {
                 return Outcome::Refused(Refusal::Number);
             }
-            natural::shape(&catalans, 0, number, entries);
+            natural::shape(&catalans, number, entries);
             Outcome::Done
         }
     }
@@ -99,7 +99,7 @@ pub fn move_by(size: usize, distance: i64, entries: &mut [u16]) -> Outcome
             let number = natural::number(&catalans, 0, entries);
             let target = std::num::wrapping_add_u64(number, distance::added(distance));
             if target < catalans[size] {
-                natural::shape(&catalans, 0, target, entries);
+                natural::shape(&catalans, target, entries);
                 return Outcome::Done;
             }
             Outcome::Refused(distance::end_past(distance))
