@@ -3,12 +3,11 @@
 --     sum-reached       a sum below the limit is the number at the distance
 --     sum-past          at any other distance no number below the limit stands
 -- Assumes nothing.
-use mathlib.Core.Path.{_≡_, refl, sym, ap, _∙_}
-use mathlib.Core.Bool.{Bool, true, false, _&&_}
-use Prim.Native.Nat.{ℕ, suc, _+_, _-_, _%_, _≤_, _<_, _^_}
+use mathlib.Core.Path.{_≡_, ap}
+use mathlib.Core.Bool.{false, _&&_}
+use Prim.Native.Nat.{ℕ, suc, _+_, _%_, _≤_, _<_, _^_}
 use native.Mathlib.Decide.{decLt}
 use native.Mathlib.Omega.{arith}
-use lib.Dec.{ltb}
 use lib.IntN.{ℤ, pos, negsuc, _+ℤ_}
 use lib.Signed.{ltZ, nonNeg}
 use borrow.Author.Tests.{lt-ltb, le-ltb}

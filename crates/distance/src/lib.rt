@@ -10,8 +10,9 @@ ghost use mir.Val.{ofZ};
 ghost use Rattle.shape.specs.Move.{endPast};
 use shape::Refusal;
 
-// What is added to a number, of 64 bits and wrapping, to come to the number at the distance: a way back of m is 2^64 - m. A number and a sum
-// below 2^63 tell in one comparison whether the way leads past either end: what is below 0 has wrapped to 2^63 or more.
+// What is added to a number to come to the one at the distance, in 64 bits and wrapping: the distance itself, or 2^64 less the way back. Where
+// every number is below a limit of 2^63 or less, one comparison of the sum with the limit asks for both ends: what is below 0 has wrapped to
+// 2^63 or more.
 pub fn added(distance: i64) -> u64
     ensures { λ r. ⌜ r ≡ ofZ w64 distance ⌝ }
 {
@@ -21,7 +22,7 @@ pub fn added(distance: i64) -> u64
     onward(distance)
 }
 
-// Why the move is refused that comes to no shape.
+// Why a move is refused that comes to no shape: for the end that lies that way.
 pub fn end_past(distance: i64) -> Refusal
     ensures { λ r. ⌜ r ≡ endPast distance ⌝ }
 {

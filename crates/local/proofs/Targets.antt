@@ -8,10 +8,10 @@
 --     target-reached, target-put      a word at the target: with it in the place of these places, the pattern is the shape asked for
 --     ones-fewer, zeros-few, word-there      what `put_numbered` asks for
 -- Assumes nothing.
-use mathlib.Core.Path.{_≡_, refl, sym, ap, _∙_, subst, subst₂}
+use mathlib.Core.Path.{_≡_, refl, sym, ap, _∙_, subst}
 use mathlib.Core.Bool.{true, false}
 use mathlib.Core.List.{List, [], _∷_, _++_}
-use Prim.Native.Nat.{ℕ, zero, suc, _+_, _-_, _*_, _%_, _≤_, _<_, _^_}
+use Prim.Native.Nat.{ℕ, suc, _+_, _-_, _*_, _%_, _≤_, _<_, _^_}
 use native.Mathlib.Decide.{decLt}
 use native.Mathlib.Numerals.{add-one}
 use native.Mathlib.Omega.{arith}
@@ -26,7 +26,7 @@ use Rattle.catalan.specs.Table.{rowOf}
 use Rattle.catalan.proofs.Counting.{C-ways, C-half, words-step, ways-words, ways-at-most}
 use Rattle.catalan.proofs.Rows.{row-at}
 use Rattle.shape.specs.Form.{count, Feasible}
-use Rattle.shape.specs.Number.{localNumber, localPlaces, localPattern}
+use Rattle.shape.specs.Number.{localNumber, localPlaces}
 use Rattle.shape.specs.Numbering.{local}
 use Rattle.shape.specs.Move.{target, reaches, moved}
 use Rattle.shape.proofs.Writing.{from-before}

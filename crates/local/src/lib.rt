@@ -9,15 +9,14 @@ pub use steps::move_block;
 pub use steps::next;
 pub use steps::previous;
 ghost use mathlib.Core.Path.{_≡_};
-ghost use mathlib.Core.List.{_++_};
 ghost use Prim.Native.Nat.{_+_, _-_, _*_, _≤_, _<_};
 ghost use lib.Dec.{leb, ltb};
-ghost use lib.ListN.{length, getD, take};
+ghost use lib.ListN.{length, getD};
 ghost use Rattle.catalan.specs.Count.{C, ways, largestSize};
 ghost use Rattle.catalan.specs.Table.{rowOf};
 ghost use Rattle.shape.specs.Tree.{head};
 ghost use Rattle.shape.specs.Form.{Feasible, patternTree};
-ghost use Rattle.shape.specs.Number.{localNumber, localPlaces, localPattern, depth as depthOf};
+ghost use Rattle.shape.specs.Number.{localNumber, localPattern, depth as depthOf};
 ghost use Rattle.shape.specs.Numbering.{local};
 ghost use Rattle.shape.specs.Move.{reaches};
 ghost use Rattle.shape.specs.Faults.{firstFault};
@@ -48,6 +47,7 @@ pub fn number(size: usize, places: &[u8]) -> u64
     number
 }
 
+// All places are put, by the row of the ways to finish after a first 0.
 pub fn shape(size: usize, number: u64, places: &mut [u8])
     requires { ⌜ (1 ≤ size) × (size ≤ largestSize) × (number < C size) × (length (now places) ≡ 2 * size) ⌝ }
     ensures { λ _. ⌜ now (places .exit) ≡ localPattern size number ⌝ }

@@ -4,7 +4,7 @@
 --     sum-below, sum-done, sum-left              t below that entry: what is said and left is the move's
 --     sum-refused, sum-kept                      and otherwise its refusal
 -- Assumes nothing.
-use mathlib.Core.Path.{_≡_, refl, sym, ap, _∙_}
+use mathlib.Core.Path.{_≡_, refl, ap, _∙_}
 use mathlib.Core.Bool.{true, false, cond}
 use mathlib.Core.List.{List}
 use Prim.Native.Nat.{ℕ, _+_, _*_, _%_, _≤_, _<_, _^_}
