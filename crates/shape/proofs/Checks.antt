@@ -237,7 +237,7 @@ module _ (N : Numbering) (p : List ℕ) where
 
   module _ (next : Outcome) where
     pub step_lower : Refuses (λ m. 5 ≤ m) next → (g : Refusal) → refusal_number g < 5 → (and_then reading next ≡ Refused g) ↔ (reading ≡ Refused g)
-    step_lower high g l = then_first reading next g (refuses_also next (λ m h e. omega arith) high)
+    step_lower high g l = then_first reading next g (refuses_also {P = λ m. 5 ≤ m} {Q = λ m. m ≡ refusal_number g → ⊥} next (λ m h e. omega arith) high)
 
     pub step_after : {Q : Type 0} → Tested N.form → (a : Outcome) → Refuses (λ m. 5 ≤ m) a → (next ≡ a) ↔ Q
         → (and_then reading next ≡ a) ↔ (Sized N.nodes × WellFormed N p × Q)

@@ -39,6 +39,7 @@ module _ {A : Type 0} where
   all_cross f u v g h = all_map (λ x p. all_map (λ y. f x y p) v h) u g
 
   pub all_member : (P : A → Type 0) (l : List A) → All P l → {x : A} → Memᴰ x l → P x
+  all_member P [] h m = elim m [ ]
   all_member P (y ∷ l) h (Memᴰ.head e) = subst⁻¹ P e h.0
   all_member P (y ∷ l) h (Memᴰ.tail m) = all_member P l h.1 m
 

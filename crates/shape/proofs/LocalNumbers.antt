@@ -112,6 +112,7 @@ number_places (one_next {e} {a} {w} r) (suc i) b hb hi =
 -- ---- order
 
 pub number_rises : {e a : ℕ} {v w : List ℕ} → Word e a v → Word e a w → Dictionary v w → local_number v < local_number w
+number_rises done done d = elim d [ ]
 number_rises (zero_next r) (zero_next s) (differ h) = absurd (omega arith)
 number_rises (zero_next {w = v} r) (zero_next {w = w} s) (agree d) = omega (arith, number_zero v, number_zero w, number_rises r s d)
 number_rises (zero_next {w = v} r) (one_next s) (differ h) = omega (arith, number_zero v, number_one s, word_number_below r)

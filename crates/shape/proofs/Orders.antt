@@ -49,9 +49,12 @@ by_parts f a a' b b' up down up' down' (after h) c = after (down h)
 
 -- ---- dictionary order
 
+dictionary_differs : {p q : List ℕ} → Dictionary p q → p ≡ q → ⊥
+dictionary_differs (differ {x = x} {y = y} h) e = let same : x ≡ y = cc in absurd (omega arith)
+dictionary_differs (agree {p = p} {q = q} d) e = let rest : p ≡ q = cc in dictionary_differs d rest
+
 pub dictionary_irreflexive : {p : List ℕ} → Dictionary p p → ⊥
-dictionary_irreflexive (differ {x = x} h) = lt_irrefl x h
-dictionary_irreflexive (agree d) = dictionary_irreflexive d
+dictionary_irreflexive d = dictionary_differs d refl
 
 pub dictionary_transitive : {p q r : List ℕ} → Dictionary p q → Dictionary q r → Dictionary p r
 dictionary_transitive (differ h) (differ k) = differ (lt_trans h k)
@@ -109,9 +112,13 @@ reflected compare write kept s t e d =
 
 -- ---- the local order
 
+local_differs : {s t : Tree} → Local s t → s ≡ t → ⊥
+local_differs (Local.empty_first {l = l} {r = r}) e = cc
+local_differs (Local.left_first {l = l} {l' = l'} d) e = let left : l ≡ l' = cc in local_differs d left
+local_differs (Local.right_first {r = r} {r' = r'} d) e = let right : r ≡ r' = cc in local_differs d right
+
 local_irreflexive : {t : Tree} → Local t t → ⊥
-local_irreflexive (Local.left_first d) = local_irreflexive d
-local_irreflexive (Local.right_first d) = local_irreflexive d
+local_irreflexive d = local_differs d refl
 
 local_transitive : {s t u : Tree} → Local s t → Local t u → Local s u
 local_transitive Local.empty_first (Local.left_first d) = Local.empty_first
@@ -157,10 +164,13 @@ natural_size (Natural.smaller_first h) = omega arith
 natural_size (Natural.left_first e d) = omega arith
 natural_size (Natural.right_first e d) = omega arith
 
+natural_differs : {s t : Tree} → Natural s t → s ≡ t → ⊥
+natural_differs (Natural.smaller_first {s = s} {t = t} h) e = let alike = ap size e in absurd (omega arith)
+natural_differs (Natural.left_first {l = l} {l' = l'} _ d) e = let left : l ≡ l' = cc in natural_differs d left
+natural_differs (Natural.right_first {r = r} {r' = r'} _ d) e = let right : r ≡ r' = cc in natural_differs d right
+
 natural_irreflexive : {t : Tree} → Natural t t → ⊥
-natural_irreflexive (Natural.smaller_first {s} h) = lt_irrefl (size s) h
-natural_irreflexive (Natural.left_first e d) = natural_irreflexive d
-natural_irreflexive (Natural.right_first e d) = natural_irreflexive d
+natural_irreflexive d = natural_differs d refl
 
 natural_transitive : {s t u : Tree} → Natural s t → Natural t u → Natural s u
 natural_transitive (Natural.smaller_first h) d = Natural.smaller_first (lt_of_lt_of_le h (natural_size d))

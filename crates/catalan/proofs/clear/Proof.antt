@@ -12,18 +12,18 @@ use Rattle.catalan.proofs.clear.Tie as tie
 
 ruleset turn = (rules, clear_begin, clear_turn, clear_end)
 
-abbrev invariant-loop : tie.invariant-loop
-invariant-loop row₀ i₀ row i = (1 ≤ i) × (i ≤ 36) × (length row ≡ 36) × (length row₀ ≡ 36) × (row ≡ seam i (row_of 0) row₀)
+abbrev invariant-loop-i : tie.invariant-loop-i
+invariant-loop-i row₀ i₀ row i = (1 ≤ i) × (i ≤ 36) × (length row ≡ 36) × (length row₀ ≡ 36) × (row ≡ seam i (row_of 0) row₀)
 
-abbrev decreases-loop : tie.decreases-loop
-decreases-loop row₀ i₀ row i = 36 - i
+abbrev decreases-loop-i : tie.decreases-loop-i
+decreases-loop-i row₀ i₀ row i = 36 - i
 
 pub clear_spec : {M : Type 1} → statement M
 clear_spec =
     tie.close
     (tie.spec
-    invariant-loop
-    decreases-loop
+    invariant-loop-i
+    decreases-loop-i
     -- slice-write-row
     (λ c. search turn)
     -- loop-holds

@@ -11,18 +11,18 @@ use Rattle.catalan.proofs.fill.Tie as tie
 
 ruleset turn = (rules, row_long, fill_end_lem)
 
-abbrev invariant-loop : tie.invariant-loop
-invariant-loop zeros row₀ b₀ row b = (b ≤ zeros) × (length row ≡ 36) × (row ≡ row_of b)
+abbrev invariant-loop-b : tie.invariant-loop-b
+invariant-loop-b zeros row₀ b₀ row b = (b ≤ zeros) × (length row ≡ 36) × (row ≡ row_of b)
 
-abbrev decreases-loop : tie.decreases-loop
-decreases-loop zeros row₀ b₀ row b = zeros - b
+abbrev decreases-loop-b : tie.decreases-loop-b
+decreases-loop-b zeros row₀ b₀ row b = zeros - b
 
 pub fill_spec : {M : Type 1} → statement M
 fill_spec =
     tie.close
     (tie.spec
-    invariant-loop
-    decreases-loop
+    invariant-loop-b
+    decreases-loop-b
     -- clear-requires
     (λ c κs. search turn)
     -- loop-holds

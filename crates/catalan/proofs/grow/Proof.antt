@@ -12,19 +12,19 @@ use Rattle.catalan.proofs.grow.Tie as tie
 
 ruleset turn = (rules, row_long, grow_begin, grow_fits, grow_turn, grow_end)
 
-abbrev invariant-loop : tie.invariant-loop
-invariant-loop zeros row₀ a₀ row a =
+abbrev invariant-loop-a : tie.invariant-loop-a
+invariant-loop-a zeros row₀ a₀ row a =
     (1 ≤ a) × (a ≤ zeros + 2) × (length row ≡ 36) × (length row₀ ≡ 36) × (row ≡ seam a (row_of (zeros + 1)) (row_of zeros))
 
-abbrev decreases-loop : tie.decreases-loop
-decreases-loop zeros row₀ a₀ row a = zeros + 2 - a
+abbrev decreases-loop-a : tie.decreases-loop-a
+decreases-loop-a zeros row₀ a₀ row a = zeros + 2 - a
 
 pub grow_spec : {M : Type 1} → statement M
 grow_spec =
     tie.close
     (tie.spec
-    invariant-loop
-    decreases-loop
+    invariant-loop-a
+    decreases-loop-a
     -- loop-holds
     (λ c. search turn)
     -- add-loop

@@ -12,19 +12,19 @@ use Rattle.catalan.proofs.shrink.Tie as tie
 
 ruleset turn = (rules, row_long, shrink_begin, shrink_holds, shrink_turn, shrink_end)
 
-abbrev invariant-loop : tie.invariant-loop
-invariant-loop zeros row₀ a₀ row a =
+abbrev invariant-loop-a : tie.invariant-loop-a
+invariant-loop-a zeros row₀ a₀ row a =
     (a ≤ zeros) × (length row ≡ 36) × (length row₀ ≡ 36) × (row ≡ seam (a + 1) (row_of zeros) (row_of (zeros - 1)))
 
-abbrev decreases-loop : tie.decreases-loop
-decreases-loop zeros row₀ a₀ row a = a
+abbrev decreases-loop-a : tie.decreases-loop-a
+decreases-loop-a zeros row₀ a₀ row a = a
 
 pub shrink_spec : {M : Type 1} → statement M
 shrink_spec =
     tie.close
     (tie.spec
-    invariant-loop
-    decreases-loop
+    invariant-loop-a
+    decreases-loop-a
     -- loop-holds
     (λ c. search turn)
     -- sub-row
