@@ -8,19 +8,19 @@ use Rattle.local.proofs.before.Tie as tie
 
 ruleset turn = (rules, feasible_length, before_less, before_more, before_turn, before_end)
 
-abbrev invariant-loop : tie.invariant-loop
-invariant-loop size first second i₀ i =
+abbrev invariant-loop-i : tie.invariant-loop-i
+invariant-loop-i size first second i₀ i =
     (length first ≡ 2 * size) × (length second ≡ 2 * size) × (i ≤ 2 * size) × (take i first ≡ take i second)
 
-abbrev decreases-loop : tie.decreases-loop
-decreases-loop size first second i₀ i = 2 * size - i
+abbrev decreases-loop-i : tie.decreases-loop-i
+decreases-loop-i size first second i₀ i = 2 * size - i
 
 pub before_spec : {M : Type 1} → statement M
 before_spec =
     tie.close
     (tie.spec
-    invariant-loop
-    decreases-loop
+    invariant-loop-i
+    decreases-loop-i
     -- loop-holds
     (λ c. search turn)
     -- mul-loop

@@ -7,18 +7,18 @@ use Rattle.local.proofs.depth.Tie as tie
 
 ruleset turn = (rules, pair_of_places, depth_begin, depth_rises, depth_stays, depth_end)
 
-abbrev invariant-loop : tie.invariant-loop
-invariant-loop size places largest₀ excess₀ k₀ largest excess k = Climbed size places largest excess k
+abbrev invariant-loop-k : tie.invariant-loop-k
+invariant-loop-k size places largest₀ excess₀ k₀ largest excess k = Climbed size places largest excess k
 
-abbrev decreases-loop : tie.decreases-loop
-decreases-loop size places largest₀ excess₀ k₀ largest excess k = size - k
+abbrev decreases-loop-k : tie.decreases-loop-k
+decreases-loop-k size places largest₀ excess₀ k₀ largest excess k = size - k
 
 pub depth_spec : {M : Type 1} → statement M
 depth_spec =
     tie.close
     (tie.spec
-    invariant-loop
-    decreases-loop
+    invariant-loop-k
+    decreases-loop-k
     -- loop-holds
     (λ c. search turn)
     -- mul-first

@@ -9,20 +9,20 @@ use Rattle.local.proofs.first_above.Tie as tie
 
 ruleset turn = (rules, le-leb, lt-leb, search_on, search_hit, search_end)
 
-abbrev invariant-loop : tie.invariant-loop
-invariant-loop places most from i₀ i =
+abbrev invariant-loop-i : tie.invariant-loop-i
+invariant-loop-i places most from i₀ i =
     (i ≤ length places)
     × (first_fault from (length places - from) (λ j. leb (get_or places j 0) most) ≡ first_fault i (length places - i) (λ j. leb (get_or places j 0) most))
 
-abbrev decreases-loop : tie.decreases-loop
-decreases-loop places most from i₀ i = length places - i
+abbrev decreases-loop-i : tie.decreases-loop-i
+decreases-loop-i places most from i₀ i = length places - i
 
 pub first_above_spec : {M : Type 1} → statement M
 first_above_spec =
     tie.close
     (tie.spec
-    invariant-loop
-    decreases-loop
+    invariant-loop-i
+    decreases-loop-i
     -- loop-holds
     (λ c. search turn)
     -- shared-slice-read-if1

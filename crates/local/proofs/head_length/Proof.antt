@@ -10,23 +10,23 @@ use Rattle.local.proofs.head_length.Tie as tie
 
 ruleset turn = (rules, place, head_begin, head_first, head_turn, head_fits, head_place, head_less, head_end)
 
-abbrev invariant-loop : tie.invariant-loop
-invariant-loop size places open₀ i₀ «open» i =
+abbrev invariant-loop-open : tie.invariant-loop-open
+invariant-loop-open size places open₀ i₀ «open» i =
     (1 ≤ i)
     × (i ≤ length (head (pattern_tree places)))
     × (length (head (pattern_tree places)) ≤ length places)
     × («open» ≤ i)
     × («open» ≡ excess places i)
 
-abbrev decreases-loop : tie.decreases-loop
-decreases-loop size places open₀ i₀ «open» i = length places - i
+abbrev decreases-loop-open : tie.decreases-loop-open
+decreases-loop-open size places open₀ i₀ «open» i = length places - i
 
 pub head_length_spec : {M : Type 1} → statement M
 head_length_spec =
     tie.close
     (tie.spec
-    invariant-loop
-    decreases-loop
+    invariant-loop-open
+    decreases-loop-open
     -- loop-holds
     (λ c. search turn)
     -- shared-slice-read-open

@@ -30,19 +30,19 @@ ruleset turn = (
   target_left,
 )
 
-abbrev invariant-loop : tie.invariant-loop
-invariant-loop size distance places row₀ target₀ ones₀ zeros₀ start₀ row target ones zeros start =
+abbrev invariant-loop-row : tie.invariant-loop-row
+invariant-loop-row size distance places row₀ target₀ ones₀ zeros₀ start₀ row target ones zeros start =
     (length row ≡ 36) × (row ≡ row_of zeros) × Sought size places distance start target ones zeros
 
-abbrev decreases-loop : tie.decreases-loop
-decreases-loop size distance places row₀ target₀ ones₀ zeros₀ start₀ row target ones zeros start = start
+abbrev decreases-loop-row : tie.decreases-loop-row
+decreases-loop-row size distance places row₀ target₀ ones₀ zeros₀ start₀ row target ones zeros start = start
 
 pub move_by_spec : {M : Type 1} → statement M
 move_by_spec =
     tie.close
     (tie.spec
-    invariant-loop
-    decreases-loop
+    invariant-loop-row
+    decreases-loop-row
     -- array-write-row
     (λ c. search turn)
     -- added-requires

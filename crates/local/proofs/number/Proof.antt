@@ -9,19 +9,19 @@ use Rattle.local.proofs.number.Tie as tie
 
 ruleset turn = (rules, row_start, row_long, passed_last, passed_zero, passed_one, passed_all, row_grown, ones_left, number_fits)
 
-abbrev invariant-loop : tie.invariant-loop
-invariant-loop size places row₀ number₀ ones₀ zeros₀ i₀ row number ones zeros i =
+abbrev invariant-loop-i : tie.invariant-loop-i
+invariant-loop-i size places row₀ number₀ ones₀ zeros₀ i₀ row number ones zeros i =
     (length row ≡ 36) × (row ≡ row_of (zeros - 1)) × Passed size places i number ones zeros
 
-abbrev decreases-loop : tie.decreases-loop
-decreases-loop size places row₀ number₀ ones₀ zeros₀ i₀ row number ones zeros i = i
+abbrev decreases-loop-i : tie.decreases-loop-i
+decreases-loop-i size places row₀ number₀ ones₀ zeros₀ i₀ row number ones zeros i = i
 
 pub number_spec : {M : Type 1} → statement M
 number_spec =
     tie.close
     (tie.spec
-    invariant-loop
-    decreases-loop
+    invariant-loop-i
+    decreases-loop-i
     -- array-write-row
     (λ c. search turn)
     -- mul-i

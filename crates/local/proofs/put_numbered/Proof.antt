@@ -11,8 +11,8 @@ use Rattle.local.proofs.put_numbered.Tie as tie
 
 ruleset turn = (rules, row_long, placing_none, placing_zero, placing_one, placing_all, zeros_left)
 
-abbrev invariant-loop : tie.invariant-loop
-invariant-loop places₀ ones₀ zeros₀ number₀ row₀ end i₀ places ones zeros number row i =
+abbrev invariant-loop-ones : tie.invariant-loop-ones
+invariant-loop-ones places₀ ones₀ zeros₀ number₀ row₀ end i₀ places ones zeros number row i =
     (length places ≡ length places₀)
     × (end ≡ length places)
     × (length row₀ ≡ 36)
@@ -20,15 +20,15 @@ invariant-loop places₀ ones₀ zeros₀ number₀ row₀ end i₀ places ones 
     × (row ≡ row_of (zeros - 1))
     × Placing (end_numbered ones₀ zeros₀ number₀ places₀) places i number ones zeros
 
-abbrev decreases-loop : tie.decreases-loop
-decreases-loop places₀ ones₀ zeros₀ number₀ row₀ end i₀ places ones zeros number row i = ones + zeros
+abbrev decreases-loop-ones : tie.decreases-loop-ones
+decreases-loop-ones places₀ ones₀ zeros₀ number₀ row₀ end i₀ places ones zeros number row i = ones + zeros
 
 pub put_numbered_spec : {M : Type 1} → statement M
 put_numbered_spec =
     tie.close
     (tie.spec
-    invariant-loop
-    decreases-loop
+    invariant-loop-ones
+    decreases-loop-ones
     -- sub-i
     (λ c. search turn)
     -- sub-i-2

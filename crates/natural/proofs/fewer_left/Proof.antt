@@ -10,18 +10,18 @@ use Rattle.natural.proofs.fewer_left.Tie as tie
 
 ruleset turn = (rules, left_entry, right_entry, trees_fit, fewer_start, fewer_fits, fewer_next, fewer_end)
 
-abbrev invariant-loop : tie.invariant-loop
-invariant-loop catalans others left fewer₀ j₀ fewer j = (j ≤ left) × (fewer ≡ fewer_left others j)
+abbrev invariant-loop-j : tie.invariant-loop-j
+invariant-loop-j catalans others left fewer₀ j₀ fewer j = (j ≤ left) × (fewer ≡ fewer_left others j)
 
-abbrev decreases-loop : tie.decreases-loop
-decreases-loop catalans others left fewer₀ j₀ fewer j = left - j
+abbrev decreases-loop-j : tie.decreases-loop-j
+decreases-loop-j catalans others left fewer₀ j₀ fewer j = left - j
 
 pub fewer_left_spec : {M : Type 1} → statement M
 fewer_left_spec =
     tie.close
     (tie.spec
-    invariant-loop
-    decreases-loop
+    invariant-loop-j
+    decreases-loop-j
     -- loop-holds
     (λ c. search turn)
     -- mul-fewer

@@ -26,18 +26,18 @@ ruleset turn = (
   left_last,
 )
 
-abbrev invariant-loop : tie.invariant-loop
-invariant-loop catalans others number left₀ rest₀ left rest = (left ≤ others) × (fewer_left others left + rest ≡ number)
+abbrev invariant-loop-left : tie.invariant-loop-left
+invariant-loop-left catalans others number left₀ rest₀ left rest = (left ≤ others) × (fewer_left others left + rest ≡ number)
 
-abbrev decreases-loop : tie.decreases-loop
-decreases-loop catalans others number left₀ rest₀ left rest = others - left
+abbrev decreases-loop-left : tie.decreases-loop-left
+decreases-loop-left catalans others number left₀ rest₀ left rest = others - left
 
 pub left_nodes_spec : {M : Type 1} → statement M
 left_nodes_spec =
     tie.close
     (tie.spec
-    invariant-loop
-    decreases-loop
+    invariant-loop-left
+    decreases-loop-left
     -- mul-if1
     (λ c. search turn)
     -- element-copy-out-if1

@@ -40,21 +40,21 @@ ruleset turn = (
   right_held,
 )
 
-abbrev invariant-loop : tie.invariant-loop
-invariant-loop catalans number entries₀ counts₀ numbers₀ base₀ count₀ number₀ i₀ entries counts numbers base count number' i =
+abbrev invariant-loop-i : tie.invariant-loop-i
+invariant-loop-i catalans number entries₀ counts₀ numbers₀ base₀ count₀ number₀ i₀ entries counts numbers base count number' i =
     (length entries ≡ length entries₀)
     × Shaping (permutation_from 0 (natural_tree (length entries₀) number)) entries counts numbers i base count number'
 
-abbrev decreases-loop : tie.decreases-loop
-decreases-loop catalans number entries₀ counts₀ numbers₀ base₀ count₀ number₀ i₀ entries counts numbers base count number' i =
+abbrev decreases-loop-i : tie.decreases-loop-i
+decreases-loop-i catalans number entries₀ counts₀ numbers₀ base₀ count₀ number₀ i₀ entries counts numbers base count number' i =
     2 * (length entries₀ - i) + (1 - count)
 
 pub shape_spec : {M : Type 1} → statement M
 shape_spec =
     tie.close
     (tie.spec
-    invariant-loop
-    decreases-loop
+    invariant-loop-i
+    decreases-loop-i
     -- loop-holds
     (λ c. search turn)
     -- mul-base

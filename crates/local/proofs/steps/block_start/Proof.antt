@@ -8,18 +8,18 @@ use Rattle.local.proofs.steps.block_start.Tie as tie
 
 ruleset turn = (rules, block_turn, block_stop, block_end)
 
-abbrev invariant-loop : tie.invariant-loop
-invariant-loop places place end i₀ i = (i ≤ length places) × (block_start place places end ≡ block_start place places i)
+abbrev invariant-loop-i : tie.invariant-loop-i
+invariant-loop-i places place end i₀ i = (i ≤ length places) × (block_start place places end ≡ block_start place places i)
 
-abbrev decreases-loop : tie.decreases-loop
-decreases-loop places place end i₀ i = i
+abbrev decreases-loop-i : tie.decreases-loop-i
+decreases-loop-i places place end i₀ i = i
 
 pub block_start_spec : {M : Type 1} → statement M
 block_start_spec =
     tie.close
     (tie.spec
-    invariant-loop
-    decreases-loop
+    invariant-loop-i
+    decreases-loop-i
     -- loop-holds
     (λ c. search turn)
     -- sub-if1

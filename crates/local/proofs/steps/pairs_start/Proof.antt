@@ -8,18 +8,18 @@ use Rattle.local.proofs.steps.pairs_start.Tie as tie
 
 ruleset turn = (rules, pairs_turn, pairs_stop, pairs_end)
 
-abbrev invariant-loop : tie.invariant-loop
-invariant-loop places end i₀ i = (i ≤ length places) × (pairs_start places end ≡ pairs_start places i)
+abbrev invariant-loop-i : tie.invariant-loop-i
+invariant-loop-i places end i₀ i = (i ≤ length places) × (pairs_start places end ≡ pairs_start places i)
 
-abbrev decreases-loop : tie.decreases-loop
-decreases-loop places end i₀ i = i
+abbrev decreases-loop-i : tie.decreases-loop-i
+decreases-loop-i places end i₀ i = i
 
 pub pairs_start_spec : {M : Type 1} → statement M
 pairs_start_spec =
     tie.close
     (tie.spec
-    invariant-loop
-    decreases-loop
+    invariant-loop-i
+    decreases-loop-i
     -- loop-holds
     (λ c. search turn)
     -- sub-if1

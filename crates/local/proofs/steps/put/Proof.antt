@@ -7,21 +7,21 @@ use Rattle.local.proofs.steps.put.Tie as tie
 
 ruleset turn = (rules, put_turn, put_end)
 
-abbrev invariant-loop : tie.invariant-loop
-invariant-loop places₀ place from to i₀ places i =
+abbrev invariant-loop-i : tie.invariant-loop-i
+invariant-loop-i places₀ place from to i₀ places i =
     (i ≤ to)
     × (length places ≡ length places₀)
     × (take i places ++ (replicate (to - i) place ++ drop to places) ≡ take from places₀ ++ (replicate (to - from) place ++ drop to places₀))
 
-abbrev decreases-loop : tie.decreases-loop
-decreases-loop places₀ place from to i₀ places i = to - i
+abbrev decreases-loop-i : tie.decreases-loop-i
+decreases-loop-i places₀ place from to i₀ places i = to - i
 
 pub put_spec : {M : Type 1} → statement M
 put_spec =
     tie.close
     (tie.spec
-    invariant-loop
-    decreases-loop
+    invariant-loop-i
+    decreases-loop-i
     -- loop-holds
     (λ c. search turn)
     -- slice-write-places

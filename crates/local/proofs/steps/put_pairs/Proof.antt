@@ -7,18 +7,18 @@ use Rattle.local.proofs.steps.put_pairs.Tie as tie
 
 ruleset turn = (rules, seconds_turn, seconds_end)
 
-abbrev invariant-loop : tie.invariant-loop
-invariant-loop places₀ place from i₀ places i = (length places ≡ length places₀) × (seconds place i places ≡ seconds place from places₀)
+abbrev invariant-loop-i : tie.invariant-loop-i
+invariant-loop-i places₀ place from i₀ places i = (length places ≡ length places₀) × (seconds place i places ≡ seconds place from places₀)
 
-abbrev decreases-loop : tie.decreases-loop
-decreases-loop places₀ place from i₀ places i = length places₀ - i
+abbrev decreases-loop-i : tie.decreases-loop-i
+decreases-loop-i places₀ place from i₀ places i = length places₀ - i
 
 pub put_pairs_spec : {M : Type 1} → statement M
 put_pairs_spec =
     tie.close
     (tie.spec
-    invariant-loop
-    decreases-loop
+    invariant-loop-i
+    decreases-loop-i
     -- loop-holds
     (λ c. search turn)
     -- slice-write-places

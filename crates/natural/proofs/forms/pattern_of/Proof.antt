@@ -8,18 +8,18 @@ use Rattle.natural.proofs.forms.pattern_of.Tie as tie
 
 ruleset turn = (rules, room, writing_begin, writing_place, writing_end)
 
-abbrev invariant-loop : tie.invariant-loop
-invariant-loop size entries places₀ label₀ k₀ i₀ places label k i = Writing size entries places label k i
+abbrev invariant-loop-i : tie.invariant-loop-i
+invariant-loop-i size entries places₀ label₀ k₀ i₀ places label k i = Writing size entries places label k i
 
-abbrev decreases-loop : tie.decreases-loop
-decreases-loop size entries places₀ label₀ k₀ i₀ places label k i = i
+abbrev decreases-loop-i : tie.decreases-loop-i
+decreases-loop-i size entries places₀ label₀ k₀ i₀ places label k i = i
 
 pub pattern_of_spec : {M : Type 1} → statement M
 pattern_of_spec =
     tie.close
     (tie.spec
-    invariant-loop
-    decreases-loop
+    invariant-loop-i
+    decreases-loop-i
     -- mul-i
     (λ c. search turn)
     -- loop-holds

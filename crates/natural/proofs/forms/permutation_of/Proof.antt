@@ -9,18 +9,18 @@ use Rattle.natural.proofs.forms.permutation_of.Tie as tie
 
 ruleset turn = (rules, le_refl, room, labelling_begin, labelling_place, labelling_end)
 
-abbrev invariant-loop : tie.invariant-loop
-invariant-loop size places entries₀ waiting₀ k₀ i₀ entries waiting k i = Labelling size places entries waiting k i
+abbrev invariant-loop-i : tie.invariant-loop-i
+invariant-loop-i size places entries₀ waiting₀ k₀ i₀ entries waiting k i = Labelling size places entries waiting k i
 
-abbrev decreases-loop : tie.decreases-loop
-decreases-loop size places entries₀ waiting₀ k₀ i₀ entries waiting k i = i
+abbrev decreases-loop-i : tie.decreases-loop-i
+decreases-loop-i size places entries₀ waiting₀ k₀ i₀ entries waiting k i = i
 
 pub permutation_of_spec : {M : Type 1} → statement M
 permutation_of_spec =
     tie.close
     (tie.spec
-    invariant-loop
-    decreases-loop
+    invariant-loop-i
+    decreases-loop-i
     -- mul-i
     (λ c. search turn)
     -- loop-holds

@@ -14,20 +14,20 @@ use Rattle.natural.proofs.steps.put_last.Tie as tie
 
 ruleset turn = (rules, last_turn, labels_end)
 
-abbrev invariant-loop : tie.invariant-loop
-invariant-loop base entries₀ i₀ entries i =
+abbrev invariant-loop-i : tie.invariant-loop-i
+invariant-loop-i base entries₀ i₀ entries i =
     (length entries ≡ length entries₀)
     × (take i entries ++ permutation_from base (last_tree (length entries₀ - i)) ≡ permutation_from base (last_tree (length entries₀)))
 
-abbrev decreases-loop : tie.decreases-loop
-decreases-loop base entries₀ i₀ entries i = length entries₀ - i
+abbrev decreases-loop-i : tie.decreases-loop-i
+decreases-loop-i base entries₀ i₀ entries i = length entries₀ - i
 
 pub put_last_spec : {M : Type 1} → statement M
 put_last_spec =
     tie.close
     (tie.spec
-    invariant-loop
-    decreases-loop
+    invariant-loop-i
+    decreases-loop-i
     -- loop-holds
     (λ c. simp sub-zero (refl, refl))
     -- sub-entries

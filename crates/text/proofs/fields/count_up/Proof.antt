@@ -9,18 +9,18 @@ use Rattle.text.proofs.fields.count_up.Tie as tie
 
 ruleset turn = (rules, carried_start, carried_up, carried_more, carried_over)
 
-abbrev invariant-loop : tie.invariant-loop
-invariant-loop digits₀ width i₀ digits i = Carried digits₀ width digits i
+abbrev invariant-loop-i : tie.invariant-loop-i
+invariant-loop-i digits₀ width i₀ digits i = Carried digits₀ width digits i
 
-abbrev decreases-loop : tie.decreases-loop
-decreases-loop digits₀ width i₀ digits i = i
+abbrev decreases-loop-i : tie.decreases-loop-i
+decreases-loop-i digits₀ width i₀ digits i = i
 
 pub count_up_spec : {M : Type 1} → statement M
 count_up_spec =
     tie.close
     (tie.spec
-    invariant-loop
-    decreases-loop
+    invariant-loop-i
+    decreases-loop-i
     -- loop-holds
     (λ c. search turn)
     -- sub-i

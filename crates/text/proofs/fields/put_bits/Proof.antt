@@ -13,18 +13,18 @@ use Rattle.text.proofs.fields.put_bits.Tie as tie
 
 ruleset turn = (rules, written_start, bits_next, bits_end, bits_count)
 
-abbrev invariant-loop : tie.invariant-loop
-invariant-loop places out₀ at i₀ out i = (i ≤ length places) × (length out ≡ length out₀) × (out ≡ written out₀ at (take i (bits places)))
+abbrev invariant-loop-i : tie.invariant-loop-i
+invariant-loop-i places out₀ at i₀ out i = (i ≤ length places) × (length out ≡ length out₀) × (out ≡ written out₀ at (take i (bits places)))
 
-abbrev decreases-loop : tie.decreases-loop
-decreases-loop places out₀ at i₀ out i = length places - i
+abbrev decreases-loop-i : tie.decreases-loop-i
+decreases-loop-i places out₀ at i₀ out i = length places - i
 
 pub put_bits_spec : {M : Type 1} → statement M
 put_bits_spec =
     tie.close
     (tie.spec
-    invariant-loop
-    decreases-loop
+    invariant-loop-i
+    decreases-loop-i
     -- loop-holds
     (λ c. search turn)
     -- shared-slice-read-out

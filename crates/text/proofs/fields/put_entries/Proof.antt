@@ -10,18 +10,18 @@ use Rattle.text.proofs.fields.put_entries.Tie as tie
 
 ruleset turn = (rules, entries_start, entries_room, entries_wide, entries_next, entries_count, entries_end)
 
-abbrev invariant-loop : tie.invariant-loop
-invariant-loop entries out₀ at words last at₀ i₀ out at' i = Entries out₀ at entries out at' i
+abbrev invariant-loop-i : tie.invariant-loop-i
+invariant-loop-i entries out₀ at words last at₀ i₀ out at' i = Entries out₀ at entries out at' i
 
-abbrev decreases-loop : tie.decreases-loop
-decreases-loop entries out₀ at words last at₀ i₀ out at' i = length entries - i
+abbrev decreases-loop-i : tie.decreases-loop-i
+decreases-loop-i entries out₀ at words last at₀ i₀ out at' i = length entries - i
 
 pub put_entries_spec : {M : Type 1} → statement M
 put_entries_spec =
     tie.close
     (tie.spec
-    invariant-loop
-    decreases-loop
+    invariant-loop-i
+    decreases-loop-i
     -- words-requires
     (λ c κs. search turn)
     -- sub-last

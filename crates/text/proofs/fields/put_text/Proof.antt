@@ -11,18 +11,18 @@ use Rattle.text.proofs.fields.put_text.Tie as tie
 
 ruleset turn = (rules, written_start, written_next, written_end, written_count)
 
-abbrev invariant-loop : tie.invariant-loop
-invariant-loop text end out₀ at i₀ out i = (i ≤ length text) × (length out ≡ length out₀) × (out ≡ written out₀ at (take i text))
+abbrev invariant-loop-i : tie.invariant-loop-i
+invariant-loop-i text end out₀ at i₀ out i = (i ≤ length text) × (length out ≡ length out₀) × (out ≡ written out₀ at (take i text))
 
-abbrev decreases-loop : tie.decreases-loop
-decreases-loop text end out₀ at i₀ out i = length text - i
+abbrev decreases-loop-i : tie.decreases-loop-i
+decreases-loop-i text end out₀ at i₀ out i = length text - i
 
 pub put_text_spec : {M : Type 1} → statement M
 put_text_spec =
     tie.close
     (tie.spec
-    invariant-loop
-    decreases-loop
+    invariant-loop-i
+    decreases-loop-i
     -- loop-holds
     (λ c. search turn)
     -- shared-slice-read-out

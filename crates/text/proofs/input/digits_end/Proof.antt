@@ -11,18 +11,18 @@ use Rattle.text.proofs.input.digits_end.Tie as tie
 
 ruleset turn = (rules, ends_turn, ends_low, ends_high, ends_all)
 
-abbrev invariant-loop : tie.invariant-loop
-invariant-loop text from i₀ i = (i ≤ length text) × (from + length (front (drop from text)) ≡ i + length (front (drop i text)))
+abbrev invariant-loop-i : tie.invariant-loop-i
+invariant-loop-i text from i₀ i = (i ≤ length text) × (from + length (front (drop from text)) ≡ i + length (front (drop i text)))
 
-abbrev decreases-loop : tie.decreases-loop
-decreases-loop text from i₀ i = length text - i
+abbrev decreases-loop-i : tie.decreases-loop-i
+decreases-loop-i text from i₀ i = length text - i
 
 pub digits_end_spec : {M : Type 1} → statement M
 digits_end_spec =
     tie.close
     (tie.spec
-    invariant-loop
-    decreases-loop
+    invariant-loop-i
+    decreases-loop-i
     -- loop-holds
     (λ c. search turn)
     -- shared-slice-read-if1

@@ -13,18 +13,18 @@ use Rattle.text.proofs.input.number.Tie as tie
 
 ruleset turn = (rules, digit_low, digit_small, digit_fits, digit_within, digit_added, value_begin, value_turn, value_over, value_end, value_held)
 
-abbrev invariant-loop : tie.invariant-loop
-invariant-loop digits next value₀ i₀ value i = (value < 2 ^ 64) × (value_from value (drop i digits) ≡ written digits)
+abbrev invariant-loop-i : tie.invariant-loop-i
+invariant-loop-i digits next value₀ i₀ value i = (value < 2 ^ 64) × (value_from value (drop i digits) ≡ written digits)
 
-abbrev decreases-loop : tie.decreases-loop
-decreases-loop digits next value₀ i₀ value i = length digits - i
+abbrev decreases-loop-i : tie.decreases-loop-i
+decreases-loop-i digits next value₀ i₀ value i = length digits - i
 
 pub number_spec : {M : Type 1} → statement M
 number_spec =
     tie.close
     (tie.spec
-    invariant-loop
-    decreases-loop
+    invariant-loop-i
+    decreases-loop-i
     -- loop-holds
     (λ c. search turn)
     -- shared-slice-read-digit
