@@ -2,7 +2,7 @@
 // the other. A step answers the change that it makes or takes back, and 0, which no change is, where there is no step to take.
 ghost use Rattle.std.specs.Prelude.{◌≡◌, ◌-◌, ◌*◌, ◌≤◌, ◌++◌, length, take, drop, replicate, ◌≢◌};
 ghost use Rattle.shape.specs.Form.{Feasible};
-ghost use Rattle.shape.specs.Number.{local_number, change as changeOf};
+ghost use Rattle.shape.specs.Number.{local_number, change as change_of};
 ghost use Rattle.local.specs.Places.{block_start, pairs_start, every_second};
 ghost use Rattle.local.specs.Places.{next_change, next_pattern, previous_change, previous_pattern};
 
@@ -76,7 +76,7 @@ pub fn previous(size: usize, places: &mut [u8]) -> u64
 // The change of the pattern, as the step back finds it, and all of its places for the first.
 pub fn change(size: usize, places: &[u8]) -> u64
     requires { Feasible size places.now }
-    ensures { result ≡ changeOf size (local_number places.now) }
+    ensures { result ≡ change_of size (local_number places.now) }
 {
     let last = 2 * size;
     let pairs = pairs_start(places, last);

@@ -32,27 +32,27 @@ abbrev claims : ℕ → lts.Claims
 claims t = (number_below t, reads.Post, fewer.Asked, fewer.Learnt)
 
 module _ (t : ℕ) where
-  rooted : (c : lts.Else1 (claims t) (number_at t) reads.Post)
+  rooted : (c : lts.Else-entries-lt2 (claims t) (number_at t) reads.Post)
       → (let given = c.before.before.args in Rooted given.base given.entries.now)
   rooted c = search rules
 
-  whole : (c : lts.After-number3 (claims t) (number_at t) reads.Post)
+  whole : (c : lts.After-number-right_number (claims t) (number_at t) reads.Post)
       → (let left = c.before.before.before in
       let fewer = left.before.before in
       let given = fewer.before.before.before.before.before.args in
-      Joined given.catalans.now given.base given.entries.now fewer.fewer-left.result left.number2.result c.number3.result)
+      Joined given.catalans.now given.base given.entries.now fewer.fewer_left-fewer.result-1 left.number-left_number.result-1 c.number-right_number.result-1)
   whole c = let h = rooted c.before.before.before.before.before.before.before.before in search joined
 
   -- the same with no right part
-  left_whole : (c : lts.Then3 (claims t) (number_at t) reads.Post)
+  left_whole : (c : lts.Then-right-entries (claims t) (number_at t) reads.Post)
       → (let left = c.before in
       let fewer = left.before.before in
       let given = fewer.before.before.before.before.before.args in
-      fewer.fewer-left.result + left.number2.result ≡ natural_number (permutation_tree given.entries.now))
+      fewer.fewer_left-fewer.result-1 + left.number-left_number.result-1 ≡ natural_number (permutation_tree given.entries.now))
   left_whole c =
       let left = c.before in
       let fewer = left.before.before in
-      left_alone (rooted fewer.before.before.before) c.if3.true fewer.fewer-left.ensures left.number2.ensures
+      left_alone (rooted fewer.before.before.before) c.if-right-entries.true fewer.fewer_left-fewer.ensures left.number-left_number.ensures
 
 pub +number_spec : {M : Type 1} → statement M
 +number_spec =
@@ -75,9 +75,9 @@ pub +number_spec : {M : Type 1} → statement M
     -- part-number-end
     (λ c. search rules)
     -- number-requires
-    (λ c κs. let h = rooted t c.before.before.before in (omega (arith, root h), (search rules, right_behind h c.before.if2.true)))
+    (λ c κs. let h = rooted t c.before.before.before in (omega (arith, root h), (search rules, right_behind h c.before.if-right-eq1.true)))
     -- returns-2
-    (λ c. right_alone (rooted t c.before.before.before.before) c.before.before.if2.true c.number.ensures)
+    (λ c. right_alone (rooted t c.before.before.before.before) c.before.before.if-right-eq1.true c.number.ensures)
     -- sub-fewer-left
     (λ c. search rules)
     -- sub-fewer-left-2

@@ -21,7 +21,7 @@ put_end_spec =
     let word = count.before.before.before.before in
     let start = word.before.before.before.before in
     figure_within start.args.out.now start.requires _ start.ranges.count _ _ _ start.ranges.figure _ _
-    count.put-number.ensures word.put-text.ensures)
+    count.put_number-at.ensures word.put_text-at.ensures)
     -- same-length
     (λ c. search rules)
     -- returns
@@ -31,4 +31,4 @@ put_end_spec =
     let word = count.before.before.before.before in
     let start = word.before.before.before.before in
     end_put start.args.out.now start.requires _ start.ranges.count _ _ _ start.ranges.figure _ _
-    count.put-number.ensures word.put-text.ensures _ _ figure.put-number2.ensures))
+    count.put_number-at.ensures word.put_text-at.ensures _ _ figure.put_number.ensures))

@@ -22,4 +22,4 @@ put_no_spec =
     let refusal = c.before.before in
     let word = refusal.before.before.before.before in
     let start = word.before.before.before.before in
-    no_put start.args.out.now start.requires _ start.ranges.refusal _ _ word.put-text.ensures _ _ refusal.put-number.ensures))
+    no_put start.args.out.now start.requires _ start.ranges.refusal _ _ word.put_text-at.ensures _ _ refusal.put-number.ensures))

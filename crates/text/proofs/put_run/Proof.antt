@@ -21,7 +21,7 @@ put_run_spec =
     let word = size.before.before.before.before in
     let start = word.before.before.before.before in
     first_within start.args.out.now start.requires _ start.ranges.size _ _ _ start.ranges.first _ _
-    size.put-number.ensures _ start.ranges.end word.put-text.ensures)
+    size.put_number-at.ensures _ start.ranges.end word.put_text-at.ensures)
     -- put-number-requires-3
     (λ c κs.
     let first = c.before.before.before in
@@ -29,7 +29,7 @@ put_run_spec =
     let word = size.before.before.before.before in
     let start = word.before.before.before.before in
     end_within start.args.out.now start.requires _ start.ranges.size _ _ _ start.ranges.first _ _
-    size.put-number.ensures _ start.ranges.end word.put-text.ensures _ _ first.put-number2.ensures)
+    size.put_number-at.ensures _ start.ranges.end word.put_text-at.ensures _ _ first.put_number-at-2.ensures)
     -- same-length
     (λ c. search rules)
     -- returns
@@ -40,4 +40,4 @@ put_run_spec =
     let word = size.before.before.before.before in
     let start = word.before.before.before.before in
     run_put start.args.out.now start.requires _ start.ranges.size _ _ _ start.ranges.first _ _
-    size.put-number.ensures _ start.ranges.end word.put-text.ensures _ _ first.put-number2.ensures _ _ end.put-number3.ensures))
+    size.put_number-at.ensures _ start.ranges.end word.put_text-at.ensures _ _ first.put_number-at-2.ensures _ _ end.put_number.ensures))

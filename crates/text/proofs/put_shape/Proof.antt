@@ -16,7 +16,7 @@ put_shape_spec =
     let number = c.before.before.before in
     let start = number.before.before.before.before.before.before in (
       bits_within _ _ start.args.digits.now start.args.places.now start.args.entries.now _ _
-          start.requires _ _ number.put-text.ensures,
+          start.requires _ _ number.put_text-at.ensures,
       start.requires.1.1.0,
     ))
     -- put-entries-requires
@@ -26,7 +26,7 @@ put_shape_spec =
     let start = number.before.before.before.before.before.before in (
       start.requires.1.0.0,
       entries_within _ _ start.args.digits.now start.args.places.now start.args.entries.now _ _
-          start.requires _ _ number.put-text.ensures _ _ places.put-bits.ensures,
+          start.requires _ _ number.put_text-at.ensures _ _ places.put_bits-at.ensures,
       start.requires.1.1.1,
     ))
     -- put-small-requires
@@ -37,7 +37,7 @@ put_shape_spec =
     let start = number.before.before.before.before.before.before in (
       start.requires.1.1.2,
       depth_within _ _ start.args.digits.now start.args.places.now start.args.entries.now _ _
-          start.requires _ _ number.put-text.ensures _ _ places.put-bits.ensures _ _ entries.put_entries.ensures,
+          start.requires _ _ number.put_text-at.ensures _ _ places.put_bits-at.ensures _ _ entries.put_entries-at.ensures,
     ))
     -- put-small-requires-2
     (λ c κs.
@@ -48,8 +48,8 @@ put_shape_spec =
     let start = number.before.before.before.before.before.before in (
       start.requires.1.1.3,
       change_within _ _ start.args.digits.now start.args.places.now start.args.entries.now _ _
-          start.requires _ _ number.put-text.ensures _ _ places.put-bits.ensures _ _ entries.put_entries.ensures
-          _ _ depth.put_small.ensures,
+          start.requires _ _ number.put_text-at.ensures _ _ places.put_bits-at.ensures _ _ entries.put_entries-at.ensures
+          _ _ depth.put_small-at.ensures,
     ))
     -- same-length
     (λ c. search rules)
@@ -62,5 +62,5 @@ put_shape_spec =
     let number = places.before.before.before.before in
     let start = number.before.before.before.before.before.before in
     shape_put _ _ start.args.digits.now start.args.places.now start.args.entries.now _ _
-    start.requires _ _ number.put-text.ensures _ _ places.put-bits.ensures _ _ entries.put_entries.ensures
-    _ _ depth.put_small.ensures _ _ change.put-small2.ensures))
+    start.requires _ _ number.put_text-at.ensures _ _ places.put_bits-at.ensures _ _ entries.put_entries-at.ensures
+    _ _ depth.put_small-at.ensures _ _ change.put_small.ensures))

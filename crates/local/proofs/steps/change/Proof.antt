@@ -13,9 +13,9 @@ use Rattle.local.proofs.steps.block_start.Reads as block
 
 ruleset turn = (rules, pairs_within, first_change, later_change)
 
-known : (c : lts.Else1 (start.Asked, start.Learnt, block.Asked, block.Learnt) reads.Pre reads.Post)
+known : (c : lts.Else-changed-eq0 (start.Asked, start.Learnt, block.Asked, block.Learnt) reads.Pre reads.Post)
     → (let given = c.before.before.before.before.args in
-    Room given.size given.places.now c.before.before.pairs_start.result c.before.block_start.result)
+    Room given.size given.places.now c.before.before.pairs_start-pairs.result c.before.block_start-changed.result)
 known c = search previous_room
 
 pub change_spec : {M : Type 1} → statement M

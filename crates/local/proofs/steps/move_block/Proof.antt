@@ -7,7 +7,7 @@ use Rattle.local.proofs.steps.move_block.Tie as tie
 
 ruleset turn = (rules, next_answers, next_leaves)
 
-known : (c : tie.After-slice-known)
+known : (c : tie.After-slice_known-1)
     → (let given = c.before.args in
     Room given.size given.places.now given.end given.start × (2 * (given.end - given.start - 1) ≤ 2 * given.size))
 known c = (search next_room, search next_half)
@@ -33,12 +33,12 @@ move_block_spec =
     -- sub-put-pairs-3
     (λ c. omega (arith, known c.before.before.before.before.before))
     -- put-pairs-requires
-    (λ c κs. omega (arith, known c.before.before.before.before.before, simp length-set at c.before.before.before.put.auto))
+    (λ c κs. omega (arith, known c.before.before.before.before.before, simp length-set at c.put.auto.places))
     -- sub-result
     (λ c. omega (arith, known c.before.before.before.before.before.before.before.before))
     -- add-result
     (λ c. omega (arith, known c.before.before.before.before.before.before.before.before))
     -- same-length
-    (λ c. omega (arith, simp length-set at c.before.before.before.before.before.before.put.auto))
+    (λ c. omega (arith, simp length-set at c.put.auto.places))
     -- returns
     (λ c. search turn))

@@ -16,9 +16,8 @@ use Rattle.local.proofs.steps.put.Reads as put
 
 ruleset turn = (rules, pairs_within, previous_answers, previous_leaves, previous_none_answers, previous_none_leaves)
 
-known : (c : lts.Else1 (start.Asked, start.Learnt, block.Asked, block.Learnt, pairs.Asked, pairs.Learnt, put.Asked, put.Learnt) reads.Pre reads.Post)
-    → (let given = c.before.before.before.before.before.before.args in
-    Room given.size given.places.now c.before.before.before.pairs_start.result c.before.block_start.result)
+known : (c : lts.Else-zeros-eq0 (start.Asked, start.Learnt, block.Asked, block.Learnt, pairs.Asked, pairs.Learnt, put.Asked, put.Learnt) reads.Pre reads.Post)
+    → Room c.args.size c.args.places.now c.pairs_start-pairs.result c.block_start-zeros.result
 known c = search previous_room
 
 pub previous_spec : {M : Type 1} → statement M
@@ -48,12 +47,12 @@ previous_spec =
     -- add-put-2
     (λ c. omega (arith, known c.before.before.before.before.before))
     -- put-requires
-    (λ c κs. omega (arith, known c.before.before.before.before.before, simp length-set at c.before.before.before.put-pairs.auto))
+    (λ c κs. omega (arith, known c.before.before.before.before.before, simp length-set at c.put_pairs.auto.places))
     -- sub-result
     (λ c. omega (arith, known c.before.before.before.before.before.before.before.before))
     -- add-result
     (λ c. omega (arith, known c.before.before.before.before.before.before.before.before))
     -- same-length-2
-    (λ c. omega (arith, simp length-set at c.before.before.before.before.before.before.put-pairs.auto))
+    (λ c. omega (arith, simp length-set at c.put_pairs.auto.places))
     -- returns-2
     (λ c. search turn))

@@ -34,11 +34,11 @@ abbrev claims : ℕ → lts.Claims
 claims t = (next_below t, reads.Post, first.Asked, first.Learnt, parts.Asked, parts.Learnt)
 
 module _ (t : ℕ) where
-  rooted : (c : lts.Else1 (claims t) (next_at t) reads.Post)
+  rooted : (c : lts.Else-entries-eq0 (claims t) (next_at t) reads.Post)
       → (let given = c.before.before.args in Rooted given.base given.entries.now)
-  rooted c = record { part = c.before.before.requires.1; some = c.if1.false }
+  rooted c = record { part = c.before.before.requires.1; some = c.if-entries-eq0.false }
 
-  right : (c : lts.Else2 (claims t) (next_at t) reads.Post)
+  right : (c : lts.Else-next (claims t) (next_at t) reads.Post)
       → (let asked = c.before.before.before in
       let given = asked.before.before.before.before.before.args in
       let b = given.base in
@@ -47,20 +47,20 @@ module _ (t : ℕ) where
   right c =
       let asked = c.before.before.before in
       let h = rooted asked.before.before.before in
-      (h, right_stays next_steps h asked.next.ensures c.if2.false)
+      (h, right_stays next_steps h asked.next.ensures c.if-next.false)
 
-  both : (c : lts.Else3 (claims t) (next_at t) reads.Post)
+  both : (c : lts.Else-next-2 (claims t) (next_at t) reads.Post)
       → (let asked = c.before.before.before in
       let asked_right = asked.before.before.before.before.before in
       let given = asked_right.before.before.before.before.before.args in
       let b = given.base in
       let p = given.entries.now in
       let q = put_right (cut b p) p asked_right.next.new.1.0 in
-      Rooted b p × BothStay has_next b p (put_left (cut b p) q asked.next2.new.1.0))
+      Rooted b p × BothStay has_next b p (put_left (cut b p) q asked.next-2.new.1.0))
   both c =
       let asked = c.before.before.before in
       let (h, m) = right asked.before.before in
-      (h, left_stays next_steps h m asked.next2.ensures c.if3.false)
+      (h, left_stays next_steps h m asked.next-2.ensures c.if-next-2.false)
 
 pub +next_spec : {M : Type 1} → statement M
 +next_spec =
@@ -70,7 +70,7 @@ pub +next_spec : {M : Type 1} → statement M
     (next_at t)
     reads.Post
     -- returns
-    (λ c. empty_moves next_steps _ c.before.before.requires.1 c.if1.true)
+    (λ c. empty_moves next_steps _ c.before.before.requires.1 c.if-entries-eq0.true)
     -- slice-read-root
     (λ c. search rules)
     -- sub-right
@@ -92,7 +92,7 @@ pub +next_spec : {M : Type 1} → statement M
     -- returns-2
     (λ c.
     let asked = c.before.before.before in
-    right_moves next_steps (rooted t asked.before.before.before) asked.next.ensures c.if2.true)
+    right_moves next_steps (rooted t asked.before.before.before) asked.next.ensures c.if-next.true)
     -- sub-next-2
     (λ c. omega (arith, root (right t c).0))
     -- part-next-start-2
@@ -119,11 +119,11 @@ pub +next_spec : {M : Type 1} → statement M
     let stepped = put.before.before in
     let back = stepped.before.before in
     let (h, m) = right t back.before.before.before in
-    left_moves next_steps h m back.before.next2.ensures stepped.if3.true put.put_first.ensures)
+    left_moves next_steps h m back.before.next-2.ensures stepped.if-next-2.true put.put_first.ensures)
     -- same-length-3
     (λ c. search rules)
     -- returns-4
-    (λ c. let (h, m) = both t c.before in next_last h m c.if4.true)
+    (λ c. let (h, m) = both t c.before in next_last h m c.if-right-entries.true)
     -- add-put-first-parts
     (λ c. omega (arith, root (both t c.before).0))
     -- put-first-parts-requires
@@ -135,4 +135,4 @@ pub +next_spec : {M : Type 1} → statement M
     let put = c.before.before in
     let more = put.before.before in
     let (h, m) = both t more.before in
-    next_root_moves h m more.if4.false put.put-first-parts.ensures)
+    next_root_moves h m more.if-right-entries.false put.put-first-parts.ensures)

@@ -28,14 +28,14 @@ put_last_parts_spec =
     -- mul-put-last
     (λ c. search rules)
     -- sub-put-last-2
-    (λ c. omega (arith, simp length-set at c.before.entries.given.1))
+    (λ c. omega (arith, simp length-set at c.before.entries-1.given.1))
     -- part-put-last-start-2
-    (λ c. omega (arith, simp length-set at c.before.entries.given.1))
+    (λ c. omega (arith, simp length-set at c.before.entries-1.given.1))
     -- part-put-last-end-2
     (λ c. search rules)
     -- put-last-requires-2
-    (λ c κs. omega (arith, simp length-set at c.before.before.entries.given.1))
+    (λ c κs. omega (arith, simp length-set at c.before.before.entries-1.given.1))
     -- same-length
-    (λ c. omega (arith, simp length-set at c.before.before.before.before.before.entries.given.1))
+    (λ c. omega (arith, simp length-set at c.before.before.before.before.before.entries-1.given.1))
     -- returns
     (λ c. search (parts_put previous_steps)))

@@ -46,7 +46,7 @@ count_up_spec =
     -- slice-write-digits-3
     (λ c. search turn)
     -- slice-write-digits-4
-    (λ c. rw length-set (omega (arith, c.before.loop.invariant.same)))
+    (λ c. rw length-set (omega (arith, c.before.loop-i.invariant.same)))
     -- add-result
     (λ c. search turn)
     -- same-length-2

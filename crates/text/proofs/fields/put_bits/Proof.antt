@@ -30,7 +30,7 @@ put_bits_spec =
     -- shared-slice-read-out
     (λ c. search turn)
     -- add-out
-    (λ c. omega (arith, c.before.before.before.requires.1 c.before.before.loop.i))
+    (λ c. omega (arith, c.before.before.before.requires.1 c.before.before.loop-i.i))
     -- add-out-2
     (λ c. search turn)
     -- slice-write-out

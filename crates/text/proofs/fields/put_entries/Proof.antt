@@ -33,11 +33,11 @@ put_entries_spec =
     -- shared-slice-read-put-label
     (λ c. search turn)
     -- cast-put-label
-    (λ c. omega (arith, c.before.before.before.before.before.before.requires.2 c.before.before.loop.i))
+    (λ c. omega (arith, c.before.before.before.before.before.before.requires.2 c.before.before.loop-i.i))
     -- mul-put-label-2
-    (λ c. omega (arith, c.before.before.before.before.before.before.requires.2 c.before.before.loop.i))
+    (λ c. omega (arith, c.before.before.before.before.before.before.requires.2 c.before.before.loop-i.i))
     -- array-read-put-label
-    (λ c. c.before.before.before.before.before.before.requires.2 c.before.before.loop.i)
+    (λ c. c.before.before.before.before.before.before.requires.2 c.before.before.loop-i.i)
     -- put-label-requires
     (λ c κs. search turn)
     -- add-i

@@ -28,13 +28,13 @@ field_spec =
     (λ c.
     let k = c.before.before.before.before in
     refused c.no_field.ensures
-    (field_unformed _ _ _ k.before.before.requires k.digits-end.ensures _ _ c.before.before.in-form.ensures c.before.if1.true))
+    (field_unformed _ _ _ k.before.before.requires k.digits_end-behind.ensures _ _ c.before.before.in-form.ensures c.before.if-not-in_form.true))
     -- no-field-requires-2
     (λ c κs. search tests)
     -- returns-2
     (λ c.
     let k = c.before.before.before.before.before in
-    refused c.no-field2.ensures (field_ended _ _ _ k.before.before.requires k.digits-end.ensures _ c.before.if2.true))
+    refused c.no_field-then-behind-text.ensures (field_ended _ _ _ k.before.before.requires k.digits_end-behind.ensures _ c.before.if-behind-text.true))
     -- shared-slice-read-if3
     (λ c. search tests)
     -- no-field-requires-3
@@ -42,8 +42,8 @@ field_spec =
     -- returns-3
     (λ c.
     let k = c.before.before.before.before.before.before.before in
-    refused c.no-field3.ensures
-    (field_other _ _ _ k.before.before.requires k.digits-end.ensures c.before.before.before.if2.false _ c.before.if3.true))
+    refused c.no_field-then-text-behind.ensures
+    (field_other _ _ _ k.before.before.requires k.digits_end-behind.ensures c.before.before.before.if-behind-text.false _ c.before.if-text-behind.true))
     -- add-number
     (λ c. search tests)
     -- number-requires
@@ -52,10 +52,10 @@ field_spec =
     (λ c.
     let k = c.before.before.before.before.before.before.before in
     let low = k.before.before.requires in
-    let at = k.digits-end.ensures in
-    let some = c.before.before.before.if2.false in
+    let at = k.digits_end-behind.ensures in
+    let some = c.before.before.before.if-behind-text.false in
     let formed = c.before.before.before.before in (
-      field_reads _ _ _ low at some _ _ _ formed.before.in-form.ensures formed.if1.false c.before.if3.false c.number.ensures.0,
+      field_reads _ _ _ low at some _ _ _ formed.before.in-form.ensures formed.if-not-in_form.false c.before.if-text-behind.false c.number.ensures.0,
       (
         λ y. field_value _ _ _ low at _ (c.number.ensures.1.0 y),
         (λ y. field_bound _ _ _ low at some _ (c.number.ensures.1.1 y), λ y. field_next _ _ _ low at some _ (c.number.ensures.1.1 y)),

@@ -14,30 +14,30 @@ read_spec =
     -- nothing-requires
     (λ c κs. search rules)
     -- returns
-    (λ c. refused c.nothing.ensures (read_size _ (field_unread _ _ _ c.before.before.before.field.ensures c.before.if1.true)))
+    (λ c. refused c.nothing.ensures (read_size _ (field_unread _ _ _ c.before.before.before.field-size.ensures c.before.if-not-size.true)))
     -- field-requires-2
-    (λ c κs. (field_read _ _ _ c.before.before.field.ensures c.if1.false).within)
+    (λ c κs. (field_read _ _ _ c.before.before.field-size.ensures c.if-not-size.false).within)
     -- nothing-requires-2
     (λ c κs. search rules)
     -- returns-2
     (λ c.
     let one = c.before.before.before.before in
-    refused c.nothing2.ensures
-    (read_first (field_read _ _ _ one.before.before.field.ensures one.if1.false)
-    (field_unread _ _ _ c.before.before.before.field2.ensures c.before.if2.true)))
+    refused c.nothing-then-not-first.ensures
+    (read_first (field_read _ _ _ one.before.before.field-size.ensures one.if-not-size.false)
+    (field_unread _ _ _ c.before.before.before.field-first.ensures c.before.if-not-first.true)))
     -- field-requires-3
-    (λ c κs. (field_read _ _ _ c.before.before.field2.ensures c.if2.false).within)
+    (λ c κs. (field_read _ _ _ c.before.before.field-first.ensures c.if-not-first.false).within)
     -- nothing-requires-3
     (λ c κs. search rules)
     -- returns-3
     (λ c.
     let two = c.before.before.before.before in
     let one = two.before.before.before in
-    refused c.nothing3.ensures
+    refused c.nothing-then-not-end.ensures
     (read_end_lem
-    (field_read _ _ _ one.before.before.field.ensures one.if1.false)
-    (field_read _ _ _ two.before.before.field2.ensures two.if2.false)
-    (field_unread _ _ _ c.before.before.before.field3.ensures c.before.if3.true)))
+    (field_read _ _ _ one.before.before.field-size.ensures one.if-not-size.false)
+    (field_read _ _ _ two.before.before.field-first.ensures two.if-not-first.false)
+    (field_unread _ _ _ c.before.before.before.field-end.ensures c.before.if-not-end.true)))
     -- nothing-requires-4
     (λ c κs. search rules)
     -- returns-4
@@ -45,19 +45,19 @@ read_spec =
     let three = c.before.before.before in
     let two = three.before.before.before in
     let one = two.before.before.before in
-    refused c.nothing4.ensures
+    refused c.nothing-then-end-input.ensures
     (read_more
-    (field_read _ _ _ one.before.before.field.ensures one.if1.false)
-    (field_read _ _ _ two.before.before.field2.ensures two.if2.false)
-    (field_read _ _ _ three.before.before.field3.ensures three.if3.false)
-    c.before.if4.true))
+    (field_read _ _ _ one.before.before.field-size.ensures one.if-not-size.false)
+    (field_read _ _ _ two.before.before.field-first.ensures two.if-not-first.false)
+    (field_read _ _ _ three.before.before.field-end.ensures three.if-not-end.false)
+    c.before.if-end-input.true))
     -- returns-5
     (λ c.
     let three = c.before.before in
     let two = three.before.before.before in
     let one = two.before.before.before in
     read_done
-    (field_read _ _ _ one.before.before.field.ensures one.if1.false)
-    (field_read _ _ _ two.before.before.field2.ensures two.if2.false)
-    (field_read _ _ _ three.before.before.field3.ensures three.if3.false)
-    c.if4.false))
+    (field_read _ _ _ one.before.before.field-size.ensures one.if-not-size.false)
+    (field_read _ _ _ two.before.before.field-first.ensures two.if-not-first.false)
+    (field_read _ _ _ three.before.before.field-end.ensures three.if-not-end.false)
+    c.if-end-input.false))
