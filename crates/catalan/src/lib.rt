@@ -1,5 +1,7 @@
 // The numbers: the table of the Catalan numbers, and the ways to finish a pattern, one row of them held at a time, so that a call needs
 // little stack. The crate stands below the calls: its functions may have a `requires`, which the calls' own checks meet.
+#![tactic(auto)]
+
 ghost use Rattle.std.specs.Prelude.{◌≡◌, ◌+◌, ◌-◌, ◌≤◌, ◌<◌, length};
 ghost use Rattle.catalan.specs.Table.{catalans, table_at, row_of};
 

@@ -1,4 +1,6 @@
 // One form written in the other: the tree stays the same, so a number does not. The slice that is written may hold anything before.
+#![tactic(auto)]
+
 ghost use Rattle.std.specs.Prelude.{◌≡◌};
 ghost use Rattle.shape.specs.Form.{patterns, permutations};
 ghost use Rattle.shape.specs.Reply.{outcome_reply};

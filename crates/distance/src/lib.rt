@@ -1,5 +1,7 @@
 // A signed distance, for calls that count in numbers without a sign. The crate stands below the calls. Each function here does one thing
 // with a sign, and nothing above it does any.
+#![tactic(auto)]
+
 ghost use Rattle.std.specs.Prelude.{◌≡◌, true, false, ◌<◌, pos};
 ghost use Rattle.std.specs.Int.Signed.{lt_z, mag};
 ghost use Rattle.std.specs.Int.{w64};

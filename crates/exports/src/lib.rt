@@ -1,5 +1,7 @@
 // Every public call for programs in C, under the names of `include/spirecloud.h`. Each function does the work of its call and answers what
 // its call answers. Only the answer's form is another, numbers in structs, since no enum and no returned slice crosses to C.
+#![tactic(auto)]
+
 pub mod conversions;
 pub mod patterns;
 pub mod permutations;

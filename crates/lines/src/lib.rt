@@ -1,5 +1,7 @@
 // The sheet library. An input line opens a sheet, and the sheet is handed out in pieces, each as many whole lines as a lent buffer has room
 // for. A sheet is a value that its holder may keep and hand in again, so every piece asks first whether its parts belong together.
+#![tactic(auto)]
+
 mod shapes;
 
 ghost use Rattle.std.specs.Prelude.{◌≡◌, length};

@@ -1,5 +1,7 @@
 // The work on patterns in the local order. The crate stands below the calls: its functions take feasible patterns and do no checks, so
 // that a caller who steps from pattern to pattern pays for a check once.
+#![tactic(auto)]
+
 mod steps;
 
 ghost use Rattle.std.specs.Prelude.{◌≡◌, ◌+◌, ◌-◌, ◌*◌, ◌<◌, ◌≤◌, length, nat_le, nat_lt, slice_index};

@@ -12,6 +12,8 @@
 //
 // Each shape of a whole list is moved to each, itself among them, and one past either end. Only how many of these moves come out is
 // printed, and those that do not.
+#![tactic(auto)]
+
 mod asked;
 mod listed;
 

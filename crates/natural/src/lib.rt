@@ -1,6 +1,8 @@
 // The work on tree permutations in the natural order. The crate stands below the calls: its functions take what has been checked. Number
 // and steps go by recursion on the left and the right part, which stand one after the other behind the root's label; a part has the labels
 // after its `base`. Shape writes the entries in that same order, in one loop.
+#![tactic(auto)]
+
 mod forms;
 mod steps;
 

@@ -1,5 +1,7 @@
 // The calls on patterns, in the local order. Each takes every input: what is no pattern of the size, no number below C(n), or has no
 // neighbour, is refused before anything is written.
+#![tactic(auto)]
+
 mod faults;
 
 ghost use Rattle.std.specs.Prelude.{◌≡◌};

@@ -10,6 +10,8 @@
 //   on PLACES CHANGE                              the pattern of the line before, stepped on
 //   back PLACES CHANGE                            the same, stepped back
 //   rank SIZE PLACES RANK                         a pattern by its rank in source document 000
+#![tactic(auto)]
+
 mod asked;
 mod through;
 

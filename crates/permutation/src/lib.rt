@@ -1,5 +1,7 @@
 // The calls on tree permutations, in the natural order. Each takes every input: what is no tree permutation of the size, no number below
 // C(n), or has no neighbour, is refused before anything is written.
+#![tactic(auto)]
+
 mod faults;
 
 ghost use Rattle.std.specs.Prelude.{◌≡◌};

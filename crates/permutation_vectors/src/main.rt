@@ -10,6 +10,8 @@
 //   back ENTRIES                                     the same, stepped back
 //   to_pattern SIZE ENTRIES ROOM REFUSAL PLACES      a permutation converted, into so many places that held 255
 //   to_permutation SIZE PLACES ROOM REFUSAL ENTRIES  a pattern converted, into so many entries that held 65535
+#![tactic(auto)]
+
 mod asked;
 mod through;
 

@@ -1,4 +1,6 @@
 // Packed records: a pattern with its size in a few bytes. Each shape has one record, and each record that is accepted one shape.
+#![tactic(auto)]
+
 mod layout;
 mod packing;
 

@@ -7,6 +7,8 @@
 //   read BYTES BEFORE REFUSAL SIZE PLACES    a record read, and all the places of the slice then
 //   pattern SIZE PLACES BYTES                a pattern there and back: written and read again
 //   record BYTES SIZE PLACES                 a record there and back: read and written again
+#![tactic(auto)]
+
 mod asked;
 mod through;
 

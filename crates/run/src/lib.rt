@@ -1,5 +1,7 @@
 // Runs: a stretch of the local list, handed out shape by shape, with the figure so far. A run's state is a value that its holder may keep,
 // send and hand in again, so every step asks first whether its parts belong together.
+#![tactic(auto)]
+
 mod state;
 
 ghost use Rattle.std.specs.Prelude.{◌≡◌};

@@ -10,6 +10,8 @@
 //   refused STATE                                  a step that is refused with 9, and the state stays
 //   run SIZE FIRST END COUNT FIGURE LIST           a run, stepped to its end
 //   cuts SIZE FIRST CUT CUT END COUNT FIGURE LIST  three runs, cut at two numbers: the lists joined, the figures added
+#![tactic(auto)]
+
 mod asked;
 mod state;
 mod through;

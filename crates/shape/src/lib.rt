@@ -1,5 +1,7 @@
 // What a shape is. The meanings stand in `specs/`, and what is proved of them in `proofs/`; the code here is what every call answers with,
 // and what it asks first.
+#![tactic(auto)]
+
 ghost use Rattle.std.specs.Prelude.{◌≡◌, ◌≤◌};
 ghost use Rattle.catalan.specs.Count.{largest_size};
 ghost use Rattle.shape.specs.Reply.{refusal_number};

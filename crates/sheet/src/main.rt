@@ -1,5 +1,7 @@
 // The sheet program. A line on standard input asks for a sheet; standard output gets the sheet, or the line that tells why there is none, and
 // nothing else. All that it knows about sheets is in crate `lines`.
+#![tactic(auto)]
+
 ghost use Rattle.std.specs.Prelude.{◌≡◌, ◌≤◌, ◌<◌, length, take};
 ghost use Rattle.shape.specs.Reply.{numbered_reply};
 ghost use Rattle.lines.specs.Handing.{lines_left};

@@ -8,6 +8,8 @@
 // An INPUT is what the line has behind the space, but for \n, \r, \t and \\, for \xNN, the byte of that hexadecimal number, and for \*NN,
 // which stands for the byte behind it that many times. A SHEET is nine fields: REFUSAL OPENED ENDED FIRST SIZE NEXT END FIGURE PLACES, with 1
 // for true, and the places as digits; those of the seventy that are not written are 0, and - is none written.
+#![tactic(auto)]
+
 mod escapes;
 mod pieces;
 mod state;

@@ -1,5 +1,7 @@
 // The sheet's text: reading the line that asks for a sheet, and putting a sheet's lines into a lent buffer. A line is put from some place on;
 // nothing else of the buffer is touched, and the answer is where the text goes on. The crate stands below the calls.
+#![tactic(auto)]
+
 mod fields;
 mod input;
 mod labels;

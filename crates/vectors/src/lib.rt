@@ -1,4 +1,6 @@
 // What the programs share that run vectors, cases that stand as lines of text: a line's fields, and what is printed of a case.
+#![tactic(auto)]
+
 mod fields;
 mod report;
 

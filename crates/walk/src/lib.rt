@@ -1,5 +1,7 @@
 // One step along the local order of a shape that is held in both forms, beside the depths of its places. The crate stands below the calls: it
 // takes what has been checked.
+#![tactic(auto)]
+
 ghost use Rattle.std.specs.Prelude.{◌≡◌, ◌++◌, map, ◌+◌, ◌-◌, ◌*◌, ◌≤◌, ◌<◌, max, length, get_or, take, drop, replicate};
 ghost use Rattle.catalan.specs.Count.{largest_size};
 ghost use Rattle.shape.specs.Tree.{permutation};
