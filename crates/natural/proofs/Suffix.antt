@@ -6,7 +6,7 @@
 -- It goes by the tree. A node's label is above those of the left part and below those of the right part, so an entry with its next label
 -- behind it is one of the left part with both in it, one of the right part with both in it, or the root with any right part behind it.
 -- Assumes nothing.
-use mathlib.Core.Path.{◌≡◌, refl, sym, ap, ◌∙◌}
+use mathlib.Core.Path.{◌≡◌, refl, sym, ap, ◌∙◌, subst}
 use mathlib.Core.Logic.{◌↔◌, ◌⊎◌, inl, inr}
 use mathlib.Core.Bool.{Bool, true, false, cond}
 use mathlib.Core.List.{List, [], ◌∷◌, ◌++◌, append-nil, append_assoc}
@@ -150,7 +150,7 @@ raised_root x p q e here rises =
 first_rises : (b m : ℕ) → Pairs ◌<◌ (permutation_from b (natural_tree m 0))
 unfolding permutation_from
 first_rises b zero = unfold natural_tree numbered_tree in tt
-first_rises b (suc m) = rw (first_node m) (entries_above _ (natural_tree m 0), first_rises _ m)
+first_rises b (suc m) = rw (first_node m) (entries_above _ (natural_tree m 0), first_rises (suc (b + size empty)) m)
 
 parts_rise : (b : ℕ) (l r : Tree) → Pairs ◌<◌ (permutation_from b l) → Pairs ◌<◌ (permutation_from (suc (b + size l)) r)
     → Pairs ◌<◌ (permutation_from b l ++ permutation_from (suc (b + size l)) r)
@@ -228,7 +228,8 @@ module _ (b : ℕ) (l r : Tree) where
     unfolding permutation_from
     stepped_none none =
         let whole : b + size (node l r) ≡ root = omega (arith, node_size l r) in
-        let low = rw whole at (entries_below b (node l r)) in
+        let low : All (λ y. y < suc root) (permutation_from b (node l r)) =
+            subst (λ (k : ℕ). All (λ y. y < suc k) (permutation_from b (node l r))) whole (entries_below b (node l r)) in
         inr ((next_none l r hr hl none).0, suffix_none root (left ++ right) parts_none (above_absent (suc root) (left ++ right) low.1))
 
 stepped_node : (b : ℕ) (l r : Tree) → Stepped b l → Stepped (suc (b + size l)) r → Stepped b (node l r)

@@ -40,7 +40,7 @@ module _ (t : ℕ) where
       → (let left = c.before.before.before in
       let fewer = left.before.before in
       let given = fewer.before.before.before.before.before.args in
-      Joined given.catalans.now given.base given.entries.now fewer.fewer_left-fewer.result-1 left.number-left_number.result-1 c.number-right_number.result-1)
+      Joined given.catalans.now given.base given.entries.now fewer.fewer_left-fewer.result left.number-left_number.result c.number-right_number.result)
   whole c = let h = rooted c.before.before.before.before.before.before.before.before in search joined
 
   -- the same with no right part
@@ -48,7 +48,7 @@ module _ (t : ℕ) where
       → (let left = c.before in
       let fewer = left.before.before in
       let given = fewer.before.before.before.before.before.args in
-      fewer.fewer_left-fewer.result-1 + left.number-left_number.result-1 ≡ natural_number (permutation_tree given.entries.now))
+      fewer.fewer_left-fewer.result + left.number-left_number.result ≡ natural_number (permutation_tree given.entries.now))
   left_whole c =
       let left = c.before in
       let fewer = left.before.before in
@@ -111,7 +111,7 @@ pub +number_spec : {M : Type 1} → statement M
     -- mul-result
     (λ c. omega (arith, root (rooted t c.before.before.before.before.before.before.before.before)))
     -- element-copy-out-result
-    (λ c. omega (arith, whole t c))
+    (λ c. omega (arith, whole t c.before))
     -- mul-result-2
     (λ c. omega (arith, whole t c.before))
     -- add-result-2

@@ -43,7 +43,7 @@ module _ (t : ℕ) where
       let given = asked.before.before.before.before.before.args in
       let b = given.base in
       let p = given.entries.now in
-      Rooted b p × RightStays has_next b p (put_right (cut b p) p asked.next.new.1.0))
+      Rooted b p × RightStays has_next b p (put_right (cut b p) p asked.next.new.entries))
   right c =
       let asked = c.before.before.before in
       let h = rooted asked.before.before.before in
@@ -55,8 +55,8 @@ module _ (t : ℕ) where
       let given = asked_right.before.before.before.before.before.args in
       let b = given.base in
       let p = given.entries.now in
-      let q = put_right (cut b p) p asked_right.next.new.1.0 in
-      Rooted b p × BothStay has_next b p (put_left (cut b p) q asked.next-2.new.1.0))
+      let q = put_right (cut b p) p asked_right.next.new.entries in
+      Rooted b p × BothStay has_next b p (put_left (cut b p) q asked.next-2.new.entries))
   both c =
       let asked = c.before.before.before in
       let (h, m) = right asked.before.before in
@@ -135,4 +135,4 @@ pub +next_spec : {M : Type 1} → statement M
     let put = c.before.before in
     let more = put.before.before in
     let (h, m) = both t more.before in
-    next_root_moves h m more.if-right-entries.false put.put-first-parts.ensures)
+    next_root_moves h m more.if-right-entries.false put.put_first_parts.ensures)

@@ -43,7 +43,7 @@ module _ (t : ℕ) where
       let given = asked.before.before.before.before.before.args in
       let b = given.base in
       let p = given.entries.now in
-      Rooted b p × RightStays has_previous b p (put_right (cut b p) p asked.previous.new.1.0))
+      Rooted b p × RightStays has_previous b p (put_right (cut b p) p asked.previous.new.entries))
   right c =
       let asked = c.before.before.before in
       let h = rooted asked.before.before.before in
@@ -55,8 +55,8 @@ module _ (t : ℕ) where
       let given = asked_right.before.before.before.before.before.args in
       let b = given.base in
       let p = given.entries.now in
-      let q = put_right (cut b p) p asked_right.previous.new.1.0 in
-      Rooted b p × BothStay has_previous b p (put_left (cut b p) q asked.previous-2.new.1.0))
+      let q = put_right (cut b p) p asked_right.previous.new.entries in
+      Rooted b p × BothStay has_previous b p (put_left (cut b p) q asked.previous-2.new.entries))
   both c =
       let asked = c.before.before.before in
       let (h, m) = right asked.before.before in
@@ -135,4 +135,4 @@ pub +previous_spec : {M : Type 1} → statement M
     let put = c.before.before in
     let more = put.before.before in
     let (h, m) = both t more.before in
-    previous_root_moves h m more.if-right-eq1.false put.put-last-parts.ensures)
+    previous_root_moves h m more.if-right-eq1.false put.put_last_parts.ensures)

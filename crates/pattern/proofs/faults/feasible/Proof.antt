@@ -21,18 +21,18 @@ ruleset turn = (
   ones_fit,
 )
 
-abbrev invariant-loop : tie.invariant-loop
-invariant-loop size places faults₀ ones₀ k₀ faults ones k = Counted size places faults ones k
+abbrev invariant-loop-k : tie.invariant-loop-k
+invariant-loop-k size places faults₀ ones₀ k₀ faults ones k = Counted size places faults ones k
 
-abbrev decreases-loop : tie.decreases-loop
-decreases-loop size places faults₀ ones₀ k₀ faults ones k = size - k
+abbrev decreases-loop-k : tie.decreases-loop-k
+decreases-loop-k size places faults₀ ones₀ k₀ faults ones k = size - k
 
 pub feasible_spec : {M : Type 1} → statement M
 feasible_spec =
     tie.close
     (tie.spec
-    invariant-loop
-    decreases-loop
+    invariant-loop-k
+    decreases-loop-k
     -- loop-holds
     (λ c. search turn)
     -- mul-first
