@@ -113,10 +113,10 @@ pub +number_spec : {M : Type 1} → statement M
     -- element-copy-out-result
     (λ c. omega (arith, whole t c.before))
     -- mul-result-2
-    (λ c. omega (arith, whole t c.before))
+    (λ c. omega (arith, whole t c.before.before))
     -- add-result-2
-    (λ c. omega (arith, whole t c.before))
+    (λ c. omega (arith, whole t c.before.before))
     -- add-result-3
-    (λ c. omega (arith, whole t c.before))
+    (λ c. omega (arith, whole t c.before.before))
     -- returns-4
-    (λ c. (whole t c.before).whole))
+    (λ c. (whole t c.before.before).whole))

@@ -20,9 +20,9 @@ read_spec =
     -- shared-slice-read-size
     (λ c. search answers)
     -- cast-size
-    (λ c. omega (arith, c.shared-slice-known2.given 0))
+    (λ c. omega (arith, c.shared_slice_known-in-Done-1.given 0))
     -- mul-if1
-    (λ c. omega (arith, c.shared-slice-known2.given 0))
+    (λ c. omega (arith, c.shared_slice_known-in-Done-1.given 0))
     -- returns
     (λ c. search answers)
     -- mul-read-places

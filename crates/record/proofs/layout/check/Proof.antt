@@ -17,7 +17,7 @@ check_spec =
     -- shared-slice-read-size
     (λ c. search found)
     -- cast-size
-    (λ c. omega (arith, c.shared-slice-known2.given 0))
+    (λ c. omega (arith, c.shared_slice_known-2-1.given 0))
     -- returns-2
     (λ c. search found)
     -- returns-3

@@ -10,18 +10,18 @@ use Rattle.record.proofs.packing.copy.Tie as tie
 
 ruleset turn = (rules, agrees_next, agrees_end)
 
-abbrev invariant-loop : tie.invariant-loop
-invariant-loop from to₀ i₀ to i = (length to ≡ length from) × (take i to ≡ take i from)
+abbrev invariant-loop-i : tie.invariant-loop-i
+invariant-loop-i from to₀ i₀ to i = (length to ≡ length from) × (take i to ≡ take i from)
 
-abbrev decreases-loop : tie.decreases-loop
-decreases-loop from to₀ i₀ to i = length from - i
+abbrev decreases-loop-i : tie.decreases-loop-i
+decreases-loop-i from to₀ i₀ to i = length from - i
 
 pub copy_spec : {M : Type 1} → statement M
 copy_spec =
     tie.close
     (tie.spec
-    invariant-loop
-    decreases-loop
+    invariant-loop-i
+    decreases-loop-i
     -- loop-holds
     (λ c. search turn)
     -- shared-slice-read-to

@@ -13,18 +13,18 @@ use Rattle.record.proofs.packing.pack.Tie as tie
 
 ruleset turn = (rules, agrees_next, agrees_end, record_long, packed_first, packed_most, packed_from, packed_next)
 
-abbrev invariant-loop : tie.invariant-loop
-invariant-loop size places bytes₀ i₀ bytes i = (1 ≤ i) × (length bytes ≡ record_length size) × (take i bytes ≡ take i (record_of size places))
+abbrev invariant-loop-i : tie.invariant-loop-i
+invariant-loop-i size places bytes₀ i₀ bytes i = (1 ≤ i) × (length bytes ≡ record_length size) × (take i bytes ≡ take i (record_of size places))
 
-abbrev decreases-loop : tie.decreases-loop
-decreases-loop size places bytes₀ i₀ bytes i = record_length size - i
+abbrev decreases-loop-i : tie.decreases-loop-i
+decreases-loop-i size places bytes₀ i₀ bytes i = record_length size - i
 
 pub pack_spec : {M : Type 1} → statement M
 pack_spec =
     tie.close
     (tie.spec
-    invariant-loop
-    decreases-loop
+    invariant-loop-i
+    decreases-loop-i
     -- mul-bytes
     (λ c. search turn)
     -- cast-bytes

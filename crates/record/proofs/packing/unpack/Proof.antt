@@ -11,18 +11,18 @@ use Rattle.record.proofs.packing.unpack.Tie as tie
 
 ruleset turn = (rules, agrees_next, agrees_end, unpacked_long, unpacked_next)
 
-abbrev invariant-loop : tie.invariant-loop
-invariant-loop bytes places₀ i₀ places i = (length places ≡ length places₀) × (take i places ≡ take i (take (length places₀) (drop 8 (bits_of bytes))))
+abbrev invariant-loop-i : tie.invariant-loop-i
+invariant-loop-i bytes places₀ i₀ places i = (length places ≡ length places₀) × (take i places ≡ take i (take (length places₀) (drop 8 (bits_of bytes))))
 
-abbrev decreases-loop : tie.decreases-loop
-decreases-loop bytes places₀ i₀ places i = length places₀ - i
+abbrev decreases-loop-i : tie.decreases-loop-i
+decreases-loop-i bytes places₀ i₀ places i = length places₀ - i
 
 pub unpack_spec : {M : Type 1} → statement M
 unpack_spec =
     tie.close
     (tie.spec
-    invariant-loop
-    decreases-loop
+    invariant-loop-i
+    decreases-loop-i
     -- loop-holds
     (λ c. search turn)
     -- add-places

@@ -5,18 +5,18 @@ use Rattle.record.proofs.Packed.{Read, reading}
 use Rattle.record.proofs.packing.whole_byte.Statement.{statement}
 use Rattle.record.proofs.packing.whole_byte.Tie as tie
 
-abbrev invariant-loop : tie.invariant-loop
-invariant-loop places from byte₀ i₀ byte i = Read places from byte i
+abbrev invariant-loop-i : tie.invariant-loop-i
+invariant-loop-i places from byte₀ i₀ byte i = Read places from byte i
 
-abbrev decreases-loop : tie.decreases-loop
-decreases-loop places from byte₀ i₀ byte i = from + 8 - i
+abbrev decreases-loop-i : tie.decreases-loop-i
+decreases-loop-i places from byte₀ i₀ byte i = from + 8 - i
 
 pub whole_byte_spec : {M : Type 1} → statement M
 whole_byte_spec =
     tie.close
     (tie.spec
-    invariant-loop
-    decreases-loop
+    invariant-loop-i
+    decreases-loop-i
     -- loop-holds
     (λ c. search reading)
     -- add-loop

@@ -19,7 +19,7 @@ step_spec =
     -- stays-requires-2
     (λ c κs. search steps)
     -- returns-2
-    (λ c. stays_answers _ _ _ tt c.stays2.ensures (search steps))
+    (λ c. stays_answers _ _ _ tt c.stays-then-self.ensures (search steps))
     -- mul-change
     (λ c. search steps)
     -- sub-change
@@ -38,7 +38,7 @@ step_spec =
     (λ c.
     let after = c.before.before.before in
     let belongs = after.before.before.before.before.before.before.belongs.ensures in
-    stays_answers _ _ _ tt c.stays3.ensures (figure_refused _ _ belongs (search steps) (search steps) _ after.change.ensures (search steps)))
+    stays_answers _ _ _ tt c.stays-then-self-change.ensures (figure_refused _ _ belongs (search steps) (search steps) _ after.change-change.ensures (search steps)))
     -- places-after-requires
     (λ c κs. search steps)
     -- add-self
@@ -49,4 +49,4 @@ step_spec =
     (λ c.
     let after = c.before.before.before.before.before in
     let belongs = after.before.before.before.before.before.before.belongs.ensures in
-    handed_answers _ _ belongs (search steps) (search steps) _ after.change.ensures (search steps) _ c.before.before.places-after.ensures))
+    handed_answers _ _ belongs (search steps) (search steps) _ after.change-change.ensures (search steps) _ c.before.before.places_after-after.ensures))

@@ -9,18 +9,18 @@ use Rattle.run.proofs.state.clear.Tie as tie
 
 ruleset turn = (rules, summed_none, summed_next, summed_all, place_fits_lem, sum_fits)
 
-abbrev invariant-loop : tie.invariant-loop
-invariant-loop places from sum₀ i₀ sum i = Summed places from sum i
+abbrev invariant-loop-i : tie.invariant-loop-i
+invariant-loop-i places from sum₀ i₀ sum i = Summed places from sum i
 
-abbrev decreases-loop : tie.decreases-loop
-decreases-loop places from sum₀ i₀ sum i = length places - i
+abbrev decreases-loop-i : tie.decreases-loop-i
+decreases-loop-i places from sum₀ i₀ sum i = length places - i
 
 pub clear_spec : {M : Type 1} → statement M
 clear_spec =
     tie.close
     (tie.spec
-    invariant-loop
-    decreases-loop
+    invariant-loop-i
+    decreases-loop-i
     -- loop-holds
     (λ c. search turn)
     -- shared-slice-read-sum
