@@ -9,8 +9,6 @@ pub put_no_spec : {M : Type 1} → statement M
 put_no_spec =
     tie.close
     (tie.spec
-    -- slice-aggregate-put-text
-    (λ c. search rules)
     -- put-text-requires
     (λ c κs. search rules)
     -- put-number-requires
@@ -19,7 +17,4 @@ put_no_spec =
     (λ c. search rules)
     -- returns
     (λ c.
-    let refusal = c.before.before in
-    let word = refusal.before.before.before.before in
-    let start = word.before.before.before.before in
-    no_put start.args.out.now start.requires _ start.ranges.refusal _ _ word.put_text-at.ensures _ _ refusal.put-number.ensures))
+    no_put c.args.out.now c.requires _ c.ranges.refusal _ _ c.put_text-at.ensures _ _ c.put_number.ensures))

@@ -9,18 +9,18 @@ use Rattle.permutation.proofs.faults.first_fault.Tie as tie
 
 ruleset turn = (rules, entry_above, passed_none, passed_next, passed_end, fault_zero, fault_large, fault_seen, fault_closed)
 
-abbrev invariant-loop : tie.invariant-loop
-invariant-loop size entries above₀ closed₀ k₀ above closed k = Passed size entries above closed k
+abbrev invariant-loop-k : tie.invariant-loop-k
+invariant-loop-k size entries above₀ closed₀ k₀ above closed k = Passed size entries above closed k
 
-abbrev decreases-loop : tie.decreases-loop
-decreases-loop size entries above₀ closed₀ k₀ above closed k = size - k
+abbrev decreases-loop-k : tie.decreases-loop-k
+decreases-loop-k size entries above₀ closed₀ k₀ above closed k = size - k
 
 pub first_fault_spec : {M : Type 1} → statement M
 first_fault_spec =
     tie.close
     (tie.spec
-    invariant-loop
-    decreases-loop
+    invariant-loop-k
+    decreases-loop-k
     -- array-write-above
     (λ c. search turn)
     -- loop-holds
@@ -30,7 +30,7 @@ first_fault_spec =
     -- shared-slice-read-entry
     (λ c. search turn)
     -- cast-entry: an entry is 16 bits
-    (λ c. omega (arith, c.shared-slice-known2.given c.before.before.loop.k))
+    (λ c. omega (arith, c.shared_slice_known-in-loop-k-1.given c.before.before.loop-k.k))
     -- returns
     (λ c. search turn)
     -- returns-2

@@ -7,18 +7,18 @@ use Rattle.permutation.proofs.faults.first_unfit.Tie as tie
 
 ruleset turn = (rules, fitting_none, fitting_next, fitting_end, unfit_zero, unfit_large, unfit_seen)
 
-abbrev invariant-loop : tie.invariant-loop
-invariant-loop size entries seen₀ k₀ seen k = Fitting size entries seen k
+abbrev invariant-loop-k : tie.invariant-loop-k
+invariant-loop-k size entries seen₀ k₀ seen k = Fitting size entries seen k
 
-abbrev decreases-loop : tie.decreases-loop
-decreases-loop size entries seen₀ k₀ seen k = size - k
+abbrev decreases-loop-k : tie.decreases-loop-k
+decreases-loop-k size entries seen₀ k₀ seen k = size - k
 
 pub first_unfit_spec : {M : Type 1} → statement M
 first_unfit_spec =
     tie.close
     (tie.spec
-    invariant-loop
-    decreases-loop
+    invariant-loop-k
+    decreases-loop-k
     -- loop-holds
     (λ c. search turn)
     -- mul-entry
@@ -26,7 +26,7 @@ first_unfit_spec =
     -- shared-slice-read-entry
     (λ c. search turn)
     -- cast-entry: an entry is 16 bits
-    (λ c. omega (arith, c.shared-slice-known.given c.before.before.loop.k))
+    (λ c. omega (arith, c.shared_slice_known-1.given c.before.before.loop-k.k))
     -- returns
     (λ c. search turn)
     -- returns-2

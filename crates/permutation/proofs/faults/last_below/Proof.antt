@@ -8,18 +8,18 @@ use Rattle.permutation.proofs.faults.last_below.Tie as tie
 
 ruleset turn = (rules, walk_start, walk_on, walk_less)
 
-abbrev invariant-loop : tie.invariant-loop
-invariant-loop above closed entry label₀ label = LinkedBelow above closed entry label
+abbrev invariant-loop-label : tie.invariant-loop-label
+invariant-loop-label above closed entry label₀ label = LinkedBelow above closed entry label
 
-abbrev decreases-loop : tie.decreases-loop
-decreases-loop above closed entry label₀ label = entry - label
+abbrev decreases-loop-label : tie.decreases-loop-label
+decreases-loop-label above closed entry label₀ label = entry - label
 
 pub last_below_spec : {M : Type 1} → statement M
 last_below_spec =
     tie.close
     (tie.spec
-    invariant-loop
-    decreases-loop
+    invariant-loop-label
+    decreases-loop-label
     -- loop-holds
     (λ c. search turn)
     -- mul-if1
@@ -27,7 +27,7 @@ last_below_spec =
     -- shared-slice-read-if1
     (λ c. search turn)
     -- cast-if1: a link is 16 bits
-    (λ c. omega (arith, c.shared-slice-known.given c.before.loop.label))
+    (λ c. omega (arith, c.shared_slice_known-1.given c.before.loop-label.label))
     -- mul-label
     (λ c. search turn)
     -- shared-slice-read-label

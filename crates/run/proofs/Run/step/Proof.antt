@@ -36,9 +36,7 @@ step_spec =
     (λ c κs. search steps)
     -- returns-3
     (λ c.
-    let after = c.before.before.before in
-    let belongs = after.before.before.before.before.before.before.belongs.ensures in
-    stays_answers _ _ _ tt c.stays-then-self-change.ensures (figure_refused _ _ belongs (search steps) (search steps) _ after.change-change.ensures (search steps)))
+    stays_answers _ _ _ tt c.stays-then-self-change.ensures (figure_refused _ _ c.belongs.ensures (search steps) (search steps) _ c.change-change.ensures (search steps)))
     -- places-after-requires
     (λ c κs. search steps)
     -- add-self
@@ -47,6 +45,4 @@ step_spec =
     (λ c. search steps)
     -- returns-4
     (λ c.
-    let after = c.before.before.before.before.before in
-    let belongs = after.before.before.before.before.before.before.belongs.ensures in
-    handed_answers _ _ belongs (search steps) (search steps) _ after.change-change.ensures (search steps) _ c.before.before.places_after-after.ensures))
+    handed_answers _ _ c.belongs.ensures (search steps) (search steps) _ c.change-change.ensures (search steps) _ c.places_after-after.ensures))

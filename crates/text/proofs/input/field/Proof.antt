@@ -26,36 +26,32 @@ field_spec =
     (λ c κs. search tests)
     -- returns
     (λ c.
-    let k = c.before.before.before.before in
     refused c.no_field.ensures
-    (field_unformed _ _ _ k.before.before.requires k.digits_end-behind.ensures _ _ c.before.before.in-form.ensures c.before.if-not-in_form.true))
+    (field_unformed _ _ _ c.requires c.digits_end-behind.ensures _ _ c.in_form.ensures c.if-not-in_form.true-raw))
     -- no-field-requires-2
     (λ c κs. search tests)
     -- returns-2
     (λ c.
-    let k = c.before.before.before.before.before in
-    refused c.no_field-then-behind-text.ensures (field_ended _ _ _ k.before.before.requires k.digits_end-behind.ensures _ c.before.if-behind-text.true))
+    refused c.no_field-then-behind-text.ensures (field_ended _ _ _ c.requires c.digits_end-behind.ensures _ c.if-behind-text.true))
     -- shared-slice-read-if3
     (λ c. search tests)
     -- no-field-requires-3
     (λ c κs. search tests)
     -- returns-3
     (λ c.
-    let k = c.before.before.before.before.before.before.before in
     refused c.no_field-then-text-behind.ensures
-    (field_other _ _ _ k.before.before.requires k.digits_end-behind.ensures c.before.before.before.if-behind-text.false _ c.before.if-text-behind.true))
+    (field_other _ _ _ c.requires c.digits_end-behind.ensures c.if-behind-text.false _ c.if-text-behind.true))
     -- add-number
     (λ c. search tests)
     -- number-requires
     (λ c κs. search tests)
     -- returns-4
     (λ c.
-    let k = c.before.before.before.before.before.before.before in
-    let low = k.before.before.requires in
-    let at = k.digits_end-behind.ensures in
-    let some = c.before.before.before.if-behind-text.false in
-    let formed = c.before.before.before.before in (
-      field_reads _ _ _ low at some _ _ _ formed.before.in-form.ensures formed.if-not-in_form.false c.before.if-text-behind.false c.number.ensures.0,
+    let low = c.requires in
+    let at = c.digits_end-behind.ensures in
+    let some = c.if-behind-text.false in
+    (
+      field_reads _ _ _ low at some _ _ _ c.in_form.ensures c.if-not-in_form.false-raw c.if-text-behind.false c.number.ensures.0,
       (
         λ y. field_value _ _ _ low at _ (c.number.ensures.1.0 y),
         (λ y. field_bound _ _ _ low at some _ (c.number.ensures.1.1 y), λ y. field_next _ _ _ low at some _ (c.number.ensures.1.1 y)),
