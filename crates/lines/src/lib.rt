@@ -10,7 +10,7 @@ ghost use Rattle.shape.specs.Check.{reply};
 ghost use Rattle.shape.specs.declared.Outcome.TheVariants.{Done};
 ghost use Rattle.run.specs.Calls.{progress};
 ghost use Rattle.text.specs.Text.{written};
-ghost use Rattle.lines.specs.Calls.{refusing, open_sheet, walks, began as hasBegun, over as is_over, keeps};
+ghost use Rattle.lines.specs.Calls.{refusing, open_sheet, walks, began as has_begun, over as is_over, keeps};
 ghost use Rattle.lines.specs.Calls.{fill_check, piece_text, sheet_with, piece_sheet, fill_reply, fill_sheet, fill_end};
 
 use run::{Progress, Run};
@@ -141,7 +141,7 @@ fn can_go_on(run: Run) -> bool
 }
 
 fn began(opened: bool, first: u64, next: u64) -> bool
-    ensures { result ≡ hasBegun opened first next }
+    ensures { result ≡ has_begun opened first next }
 {
     if opened {
         return first <= next;

@@ -11,7 +11,7 @@ ghost use Rattle.run.specs.State.{no_places};
 ghost use Rattle.run.specs.Walk.{after, figure_of};
 ghost use Rattle.walk.specs.Depths.{depths_of};
 ghost use Rattle.text.specs.Text.{shape_lines, written};
-ghost use Rattle.lines.specs.Calls.{standing, listed as linesIn, listed_lines as lines_of};
+ghost use Rattle.lines.specs.Calls.{standing, listed as lines_in, listed_lines as lines_of};
 
 use run::Run;
 
@@ -26,7 +26,7 @@ pub(crate) struct Listed {
 pub(crate) fn list(run: Run, out: &mut [u8]) -> Listed
     requires { progress run ≡ Handed }
     ensures bytes_value { result.bytes ≡ length (lines_of run (length out.old)) }
-    ensures run_value { result.run ≡ after (linesIn run (length out.old)) run }
+    ensures run_value { result.run ≡ after (lines_in run (length out.old)) run }
     ensures out_after { out.new ≡ written out.old 0 (lines_of run (length out.old)) }
 {
     let size = run.size;
@@ -91,7 +91,7 @@ fn put_lines(
     requires places_value { (places.old ≡ local_pattern size first)
         × (entries.old ≡ permutation (pattern_tree places.old))
         × (depths.old ≡ depths_of places.old) }
-    ensures next_value { result.next ≡ first + linesIn (standing size first end before) (length out.old) }
+    ensures next_value { result.next ≡ first + lines_in (standing size first end before) (length out.old) }
     ensures figure_value { result.figure ≡ before + figure_of size first result.next }
     ensures bytes_value { result.bytes ≡ length (shape_lines size first result.next) }
     ensures out_after { out.new ≡ written out.old 0 (shape_lines size first result.next) }

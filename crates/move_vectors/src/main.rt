@@ -17,8 +17,8 @@
 mod asked;
 mod listed;
 
-use libc::{STDIN_FILENO, STDOUT_FILENO};
 use listed::Order;
+use vectors::{STDIN_FILENO, STDOUT_FILENO};
 
 // Where the names stand in the list of `line`.
 const HEADING: usize = 0;

@@ -8,7 +8,7 @@ mod steps;
 
 ghost use Rattle.std.specs.Prelude.{◌≡◌, ◌+◌, ◌≤◌, ◌<◌, length};
 ghost use Rattle.catalan.specs.Count.{C, largest_size};
-ghost use Rattle.catalan.specs.Table.{catalans as theTable};
+ghost use Rattle.catalan.specs.Table.{catalans as the_table};
 ghost use Rattle.shape.specs.Tree.{permutation_from};
 ghost use Rattle.shape.specs.Form.{permutation_tree};
 ghost use Rattle.shape.specs.Number.{fewer_left, left_nodes, natural_number, natural_tree};
@@ -20,7 +20,7 @@ pub use steps::{next, previous};
 // The trees with a smaller left part come first; the left's number counts in steps of as many as there are right parts. Half of all parts
 // are empty, and for those there is no call; a tree of one node is alone of its size.
 pub fn number(catalans: &[u64; 37], base: u16, entries: &[u16]) -> u64
-    requires { (catalans.now ≡ theTable) × Part base entries.now }
+    requires { (catalans.now ≡ the_table) × Part base entries.now }
     ensures { result ≡ natural_number (permutation_tree entries.now) }
 {
     if entries.len() < 2 {
@@ -42,7 +42,7 @@ pub fn number(catalans: &[u64; 37], base: u16, entries: &[u16]) -> u64
 
 // How many trees with so many nodes besides the root have fewer than `left` of them on the left.
 fn fewer_left(catalans: &[u64; 37], others: usize, left: usize) -> u64
-    requires { (catalans.now ≡ theTable) × (left ≤ others) × (others < largest_size) }
+    requires { (catalans.now ≡ the_table) × (left ≤ others) × (others < largest_size) }
     ensures { result ≡ fewer_left others left }
 {
     let mut fewer = 0;
@@ -66,7 +66,7 @@ struct Split {
 // base there and its count and number in the same place of the two arrays. Where one part is empty, what is left is the other's number, so
 // that there is nothing to divide; with no left part it is all of it, and half of the parts or more have none.
 pub fn shape(catalans: &[u64; 37], number: u64, entries: &mut [u16])
-    requires { (catalans.now ≡ theTable) × (length entries.old ≤ largest_size) × (number < C (length entries.old)) }
+    requires { (catalans.now ≡ the_table) × (length entries.old ≤ largest_size) × (number < C (length entries.old)) }
     ensures { entries.new ≡ permutation_from 0 (natural_tree (length entries.old) number) }
 {
     let mut counts = [0u8; 35];
@@ -108,7 +108,7 @@ pub fn shape(catalans: &[u64; 37], number: u64, entries: &mut [u16])
 // The trees that have one node more on the left come after all that have as many as here. Those with none there come first, as many as the
 // right parts, and are tested apart: within a caller that has made that test it falls away, and the loop begins behind them.
 fn left_nodes(catalans: &[u64; 37], others: usize, number: u64) -> Split
-    requires { (catalans.now ≡ theTable) × (others < largest_size) × (number < C (others + 1)) }
+    requires { (catalans.now ≡ the_table) × (others < largest_size) × (number < C (others + 1)) }
     ensures left_value { result.left ≡ left_nodes others others number }
     ensures rest_value { fewer_left others result.left + result.rest ≡ number }
 {

@@ -3,14 +3,14 @@
 ghost use Rattle.std.specs.Prelude.{◌↔◌, ◌≡◌, true, ◌*◌, ◌≤◌, length};
 ghost use Rattle.catalan.specs.Count.{largest_size};
 ghost use Rattle.shape.specs.Form.{Feasible, patterns};
-ghost use Rattle.shape.specs.Check.{contents as contentsOf};
+ghost use Rattle.shape.specs.Check.{contents as contents_of};
 
 use shape::{Outcome, Refusal};
 
 // Whether the places are those of a pattern.
 pub(crate) fn contents(size: usize, places: &[u8]) -> Outcome
     requires { (size ≤ largest_size) × (length places.now ≡ 2 * size) }
-    ensures { result ≡ contentsOf patterns size places.now }
+    ensures { result ≡ contents_of patterns size places.now }
 {
     if feasible(size, places) {
         return Outcome::Done;

@@ -15,7 +15,7 @@
 mod asked;
 mod through;
 
-use libc::{STDIN_FILENO, STDOUT_FILENO};
+use vectors::{STDIN_FILENO, STDOUT_FILENO};
 
 // Where the names stand in the list of `line`.
 const HEADING: usize = 0;

@@ -3,7 +3,7 @@
 ghost use Rattle.std.specs.Prelude.{◌≡◌, ◌<◌, ◌≤◌, length, slice_index};
 ghost use Rattle.catalan.specs.Count.{largest_size};
 ghost use Rattle.shape.specs.Form.{permutations, entry_fits};
-ghost use Rattle.shape.specs.Check.{contents as contentsOf};
+ghost use Rattle.shape.specs.Check.{contents as contents_of};
 ghost use Rattle.shape.specs.Faults.{first_fault, fits};
 ghost use Rattle.permutation.specs.Links.{Links, LinkedBelow};
 
@@ -12,7 +12,7 @@ use shape::{Outcome, Refusal};
 // Whether the entries are those of a tree permutation.
 pub(crate) fn contents(size: usize, entries: &[u16]) -> Outcome
     requires { (size ≤ largest_size) × (length entries.now ≡ size) }
-    ensures { result ≡ contentsOf permutations size entries.now }
+    ensures { result ≡ contents_of permutations size entries.now }
 {
     if first_fault(size, entries) == size {
         return Outcome::Done;

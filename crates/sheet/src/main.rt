@@ -7,9 +7,13 @@ ghost use Rattle.shape.specs.Reply.{numbered_reply};
 ghost use Rattle.lines.specs.Handing.{lines_left};
 ghost use Rattle.sheet.specs.Batch.{Handed, Silent};
 
-use libc::{STDIN_FILENO, STDOUT_FILENO};
 use lines::Sheet;
 use shape::Numbered;
+
+// The file descriptors of standard input and output.
+const STDIN_FILENO: i32 = 0;
+
+const STDOUT_FILENO: i32 = 1;
 
 fn main() {
     // No line that is taken has more than 63 bytes, so that the first 64 decide (`first_bytes`), and what follows need not be read.

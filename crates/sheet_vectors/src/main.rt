@@ -14,7 +14,7 @@ mod escapes;
 mod pieces;
 mod state;
 
-use libc::{STDIN_FILENO, STDOUT_FILENO};
+use vectors::{STDIN_FILENO, STDOUT_FILENO};
 
 // Where the names stand in the list of `line`.
 const HEADING: usize = 0;

@@ -2,9 +2,9 @@
 ghost use Rattle.std.specs.Prelude.{◌≤◌};
 
 use crate::{escapes, state};
-use libc::STDOUT_FILENO;
 use lines::{Filled, Sheet};
 use shape::Numbered;
+use vectors::STDOUT_FILENO;
 
 // The byte that the buffer is filled with before a piece, and which no piece has.
 const UNTOUCHED: u8 = 126;

@@ -1,7 +1,7 @@
 // Reading the line that asks for a sheet: three decimals with single spaces between them, a newline, and nothing after.
 ghost use Rattle.std.specs.Prelude.{◌≡◌, true, false, ◌+◌, ◌≤◌, length, drop};
 ghost use Rattle.shape.specs.Every.{All};
-ghost use Rattle.text.specs.Input.{Digit, front, value, in_form, fits, field as isField, next, reads, asked_size, asked_first, asked_end};
+ghost use Rattle.text.specs.Input.{Digit, front, value, in_form, fits, field as is_field, next, reads, asked_size, asked_first, asked_end};
 
 // What an input asks for; all 0 where it does not read as such a line.
 #[derive(Drop)]
@@ -63,7 +63,7 @@ fn nothing() -> Asked
 // The number at `from`, with the byte `end` behind it.
 fn field(text: &[u8], from: usize, end: u8) -> Part
     requires { from ≤ length text.now }
-    ensures reads_value { result.reads ≡ isField end (drop from text.now) }
+    ensures reads_value { result.reads ≡ is_field end (drop from text.now) }
     ensures value_value { result.reads ≡ true → result.value ≡ value (front (drop from text.now)) }
     ensures next_in_bounds { result.reads ≡ true → result.next ≤ length text.now }
     ensures text_value { result.reads ≡ true → drop result.next text.now ≡ next (drop from text.now) }

@@ -9,7 +9,7 @@ pub use fields::{
 };
 pub use report::{
     BACK, CHANGE, CHECK, COUNT, DEPTH, END, FIGURE, HANDED, HEAD, IS, LATER, MOVE, NEXT, NUMBER,
-    ON, PLACES, READ, SHAPE, SIZE, START, TO_PATTERN, TO_PERMUTATION, WRITE, are_entries,
-    are_places, decimal, end_line, equals, holds, holds_bytes, holds_entries, name, number_of,
-    outcome, refusal_of, value, word,
+    ON, PLACES, READ, SHAPE, SIZE, START, STDIN_FILENO, STDOUT_FILENO, TO_PATTERN, TO_PERMUTATION,
+    WRITE, are_entries, are_places, decimal, end_line, equals, holds, holds_bytes, holds_entries,
+    name, number_of, outcome, refusal_of, value, word,
 };

@@ -4,8 +4,12 @@ ghost use Rattle.std.specs.Prelude.{◌≤◌, length};
 ghost use Rattle.io.specs.Counts.{IsPrefixLen};
 
 use crate::fields::field;
-use libc::STDOUT_FILENO;
 use shape::{Numbered, Outcome, Refusal};
+
+// The file descriptors of standard input and output.
+pub const STDIN_FILENO: i32 = 0;
+
+pub const STDOUT_FILENO: i32 = 1;
 
 // What an answer is to, by where its name stands in the list of `name`: a text at every call would double what there is to prove.
 pub const CHECK: usize = 0;

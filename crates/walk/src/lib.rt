@@ -8,7 +8,7 @@ ghost use Rattle.shape.specs.Tree.{permutation};
 ghost use Rattle.shape.specs.Form.{Feasible, pattern_tree};
 ghost use Rattle.local.specs.Places.{next_change, next_pattern};
 ghost use Rattle.walk.specs.Depths.{depths_of};
-ghost use Rattle.walk.specs.Labels.{relabelled as relabelledOf, rising};
+ghost use Rattle.walk.specs.Labels.{relabelled as relabelled_of, rising};
 
 // The next shape's pattern, permutation and depths, in the place of this one's, and its change; 0, and all as they are, for the last. A 0 stands
 // as far among the zeros as the label says that it gives, so the `kept` labels of the zeros before the changed place stay. The block's nodes are
@@ -38,7 +38,7 @@ pub fn next(size: usize, places: &mut [u8], entries: &mut [u16], depths: &mut [u
 // The nodes before the block: one rule for each of them, so that many can be worked out at once.
 fn relabel(entries: &mut [u16], nodes: usize, kept: u16, others: u16)
     requires { (nodes ≤ length entries.old) × (kept + others + 2 ≤ largest_size) }
-    ensures { entries.new ≡ map (relabelledOf kept others) (take nodes entries.old) ++ drop nodes entries.old }
+    ensures { entries.new ≡ map (relabelled_of kept others) (take nodes entries.old) ++ drop nodes entries.old }
 {
     let mut i = 0;
     while i < nodes {
@@ -50,7 +50,7 @@ fn relabel(entries: &mut [u16], nodes: usize, kept: u16, others: u16)
 // Without a jump in compiled code, since all that the tests decide is a number.
 fn relabelled(label: u16, kept: u16, others: u16) -> u16
     requires { kept + others + 2 ≤ largest_size }
-    ensures { result ≡ relabelledOf kept others label }
+    ensures { result ≡ relabelled_of kept others label }
 {
     if label <= kept {
         return label;

@@ -11,21 +11,21 @@ use Rattle.walk.proofs.deepen.Tie as tie
 
 ruleset turn = (rules, filled_turn, filled_end)
 
-abbrev invariant-loop : tie.invariant-loop
-invariant-loop depths₀ from excess depth i₀ depths i =
+abbrev invariant-loop-i : tie.invariant-loop-i
+invariant-loop-i depths₀ from excess depth i₀ depths i =
     (length depths ≡ length depths₀)
     × (i ≤ length depths₀)
     × (take i depths ++ replicate (length depths₀ - i) depth ≡ take from depths₀ ++ replicate (length depths₀ - from) depth)
 
-abbrev decreases-loop : tie.decreases-loop
-decreases-loop depths₀ from excess depth i₀ depths i = length depths₀ - i
+abbrev decreases-loop-i : tie.decreases-loop-i
+decreases-loop-i depths₀ from excess depth i₀ depths i = length depths₀ - i
 
 pub deepen_spec : {M : Type 1} → statement M
 deepen_spec =
     tie.close
     (tie.spec
-    invariant-loop
-    decreases-loop
+    invariant-loop-i
+    decreases-loop-i
     -- sub-larger
     (λ c. search turn)
     -- slice-read-larger

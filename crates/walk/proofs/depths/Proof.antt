@@ -8,18 +8,18 @@ use Rattle.walk.proofs.depths.Tie as tie
 
 ruleset turn = (rules, climb)
 
-abbrev invariant-loop : tie.invariant-loop
-invariant-loop size places depths₀ excess₀ i₀ depths excess i = Climbing size places depths excess i
+abbrev invariant-loop-i : tie.invariant-loop-i
+invariant-loop-i size places depths₀ excess₀ i₀ depths excess i = Climbing size places depths excess i
 
-abbrev decreases-loop : tie.decreases-loop
-decreases-loop size places depths₀ excess₀ i₀ depths excess i = 2 * size - i
+abbrev decreases-loop-i : tie.decreases-loop-i
+decreases-loop-i size places depths₀ excess₀ i₀ depths excess i = 2 * size - i
 
 pub depths_spec : {M : Type 1} → statement M
 depths_spec =
     tie.close
     (tie.spec
-    invariant-loop
-    decreases-loop
+    invariant-loop-i
+    decreases-loop-i
     -- slice-write-depths
     (λ c. search turn)
     -- loop-holds

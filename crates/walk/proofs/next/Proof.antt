@@ -13,12 +13,11 @@ use Rattle.walk.proofs.next.Tie as tie
 
 ruleset turn = (rules, next_none_answers, next_none_leaves)
 
-known : (c : tie.Else1)
-    → (let given = c.before.before.before.before.before.before.before.args in
-    let block = c.before.before.last_block.result in
-    Moving given.size block.end block.start
-    × (length given.entries.now ≡ given.size)
-    × (length given.depths.now ≡ 2 * given.size + 1))
+known : (c : tie.Else-block-eq0)
+    → (let block = c.last_block-block.result in
+    Moving c.args.size block.end block.start
+    × (length c.args.entries.now ≡ c.args.size)
+    × (length c.args.depths.now ≡ 2 * c.args.size + 1))
 known c = (search moving, search entries_long, search depths_long)
 
 pub next_spec : {M : Type 1} → statement M
@@ -56,14 +55,14 @@ next_spec =
     -- mul-entries
     (λ c. search turn)
     -- slice-write-entries
-    (λ c. omega (arith, known c.before.before.before.before.before.before, c.before.before.relabel.auto))
+    (λ c. omega (arith, known c.before.before.before.before.before.before, c.relabel.auto.entries))
     -- add-put-rising
     (λ c. search turn)
     -- put-rising-requires
     (λ c κs.
     let k = known c.before.before.before.before.before.before.before in
-    let relabel = c.before.before.before.relabel in
-    written_room _ _ _ relabel.new.0 k.0.front (omega (arith, k.1, relabel.auto)) (omega arith))
+    let relabel = c.relabel in
+    written_room _ _ _ relabel.new.entries k.0.front (omega (arith, k.1, relabel.auto.entries)) (omega arith))
     -- sub-deepen
     (λ c. omega (arith, known c.before.before.before.before.before.before.before.before.before.before.before))
     -- deepen-requires
@@ -76,8 +75,7 @@ next_spec =
     (λ c. search turn)
     -- same-length-3
     (λ c.
-    let then = c.before.before.before.before.before.before.before.before.before.before in
-    omega (arith, then.before.before.before.before.relabel.auto, simp length-set at then.put-rising.auto))
+    omega (arith, c.relabel.auto.entries, simp length-set at c.put_rising.auto.entries))
     -- same-length-4
     (λ c. search turn)
     -- returns-2

@@ -12,21 +12,21 @@ use Rattle.walk.proofs.put_rising.Tie as tie
 
 ruleset turn = (rules, rising_turn, rising_end)
 
-abbrev invariant-loop : tie.invariant-loop
-invariant-loop entries₀ from i₀ entries i =
+abbrev invariant-loop-i : tie.invariant-loop-i
+invariant-loop-i entries₀ from i₀ entries i =
     (length entries ≡ length entries₀)
     × (i ≤ length entries₀)
     × (take i entries ++ rising i (length entries₀ - i) ≡ take from entries₀ ++ rising from (length entries₀ - from))
 
-abbrev decreases-loop : tie.decreases-loop
-decreases-loop entries₀ from i₀ entries i = length entries₀ - i
+abbrev decreases-loop-i : tie.decreases-loop-i
+decreases-loop-i entries₀ from i₀ entries i = length entries₀ - i
 
 pub put_rising_spec : {M : Type 1} → statement M
 put_rising_spec =
     tie.close
     (tie.spec
-    invariant-loop
-    decreases-loop
+    invariant-loop-i
+    decreases-loop-i
     -- loop-holds
     (λ c. search turn)
     -- cast-entries

@@ -12,21 +12,21 @@ use Rattle.walk.proofs.relabel.Tie as tie
 
 ruleset turn = (rules, relabel_begin, relabel_turn, relabel_end)
 
-abbrev invariant-loop : tie.invariant-loop
-invariant-loop entries₀ nodes kept others i₀ entries i =
+abbrev invariant-loop-i : tie.invariant-loop-i
+invariant-loop-i entries₀ nodes kept others i₀ entries i =
     (length entries ≡ length entries₀)
     × (i ≤ nodes)
     × (mapped (relabelled kept others) i nodes entries ≡ map (relabelled kept others) (take nodes entries₀) ++ drop nodes entries₀)
 
-abbrev decreases-loop : tie.decreases-loop
-decreases-loop entries₀ nodes kept others i₀ entries i = nodes - i
+abbrev decreases-loop-i : tie.decreases-loop-i
+decreases-loop-i entries₀ nodes kept others i₀ entries i = nodes - i
 
 pub relabel_spec : {M : Type 1} → statement M
 relabel_spec =
     tie.close
     (tie.spec
-    invariant-loop
-    decreases-loop
+    invariant-loop-i
+    decreases-loop-i
     -- loop-holds
     (λ c. search turn)
     -- mul-relabelled

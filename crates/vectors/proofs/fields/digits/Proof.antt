@@ -6,19 +6,19 @@ use borrow.Author.Rules.{rules}
 use Rattle.vectors.proofs.fields.digits.Statement.{statement}
 use Rattle.vectors.proofs.fields.digits.Tie as tie
 
-abbrev invariant-loop : tie.invariant-loop
-invariant-loop text value₀ i₀ value i = Unit
+abbrev invariant-loop-i : tie.invariant-loop-i
+invariant-loop-i text value₀ i₀ value i = Unit
 
-abbrev decreases-loop : tie.decreases-loop
-decreases-loop text value₀ i₀ value i = length text - i
+abbrev decreases-loop-i : tie.decreases-loop-i
+decreases-loop-i text value₀ i₀ value i = length text - i
 
 pub digits_spec : {M : Type 1} → statement M
 digits_spec =
     tie.close
     (tie.spec
-    invariant-loop
-    decreases-loop
-    -- loop-holds
+    invariant-loop-i
+    decreases-loop-i
+    -- loop-init
     (λ c. search rules)
     -- shared-slice-read-place
     (λ c. search rules)
@@ -36,9 +36,9 @@ digits_spec =
     (λ c. search rules)
     -- add-i
     (λ c. search rules)
-    -- loop-less
+    -- loop-smaller
     (λ c. search rules)
-    -- loop-again
+    -- loop-preserved
     (λ c. search rules)
     -- returns-2
     (λ c. search rules))

@@ -6,19 +6,19 @@ use borrow.Author.Rules.{rules}
 use Rattle.vectors.proofs.fields.end_of.Statement.{statement}
 use Rattle.vectors.proofs.fields.end_of.Tie as tie
 
-abbrev invariant-loop : tie.invariant-loop
-invariant-loop text start letter i₀ i = (start ≤ i) × (i ≤ length text)
+abbrev invariant-loop-i : tie.invariant-loop-i
+invariant-loop-i text start letter i₀ i = (start ≤ i) × (i ≤ length text)
 
-abbrev decreases-loop : tie.decreases-loop
-decreases-loop text start letter i₀ i = length text - i
+abbrev decreases-loop-i : tie.decreases-loop-i
+decreases-loop-i text start letter i₀ i = length text - i
 
 pub end_of_spec : {M : Type 1} → statement M
 end_of_spec =
     tie.close
     (tie.spec
-    invariant-loop
-    decreases-loop
-    -- loop-holds
+    invariant-loop-i
+    decreases-loop-i
+    -- loop-init
     (λ c. search rules)
     -- shared-slice-read-if1
     (λ c. search rules)
@@ -26,9 +26,9 @@ end_of_spec =
     (λ c. search rules)
     -- add-i
     (λ c. search rules)
-    -- loop-less
+    -- loop-smaller
     (λ c. search rules)
-    -- loop-again
+    -- loop-preserved
     (λ c. search rules)
     -- returns-2
     (λ c. search rules))

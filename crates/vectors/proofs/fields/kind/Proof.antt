@@ -6,21 +6,21 @@ use borrow.Author.Rules.{rules}
 use Rattle.vectors.proofs.fields.kind.Statement.{statement}
 use Rattle.vectors.proofs.fields.kind.Tie as tie
 
-abbrev invariant-loop : tie.invariant-loop
-invariant-loop line names name k₀ k = Unit
+abbrev invariant-loop-k : tie.invariant-loop-k
+invariant-loop-k line names name k₀ k = Unit
 
-abbrev decreases-loop : tie.decreases-loop
-decreases-loop line names name k₀ k = length names - k
+abbrev decreases-loop-k : tie.decreases-loop-k
+decreases-loop-k line names name k₀ k = length names - k
 
 pub kind_spec : {M : Type 1} → statement M
 kind_spec =
     tie.close
     (tie.spec
-    invariant-loop
-    decreases-loop
+    invariant-loop-k
+    decreases-loop-k
     -- field-requires
     (λ c κs. search rules)
-    -- loop-holds
+    -- loop-init
     (λ c. search rules)
     -- field-requires-2
     (λ c κs. search rules)
@@ -30,9 +30,9 @@ kind_spec =
     (λ c. search rules)
     -- add-k
     (λ c. search rules)
-    -- loop-less
+    -- loop-smaller
     (λ c. search rules)
-    -- loop-again
+    -- loop-preserved
     (λ c. search rules)
     -- returns-2
     (λ c. search rules))

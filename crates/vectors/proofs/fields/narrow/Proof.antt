@@ -9,19 +9,19 @@ use borrow.Author.Rules.{rules}
 use Rattle.vectors.proofs.fields.narrow.Statement.{statement}
 use Rattle.vectors.proofs.fields.narrow.Tie as tie
 
-abbrev invariant-loop : tie.invariant-loop
-invariant-loop entries bytes₀ k₀ bytes k = (length bytes ≡ length bytes₀) × (k ≤ length bytes₀)
+abbrev invariant-loop-k : tie.invariant-loop-k
+invariant-loop-k entries bytes₀ k₀ bytes k = (length bytes ≡ length bytes₀) × (k ≤ length bytes₀)
 
-abbrev decreases-loop : tie.decreases-loop
-decreases-loop entries bytes₀ k₀ bytes k = length entries - k
+abbrev decreases-loop-k : tie.decreases-loop-k
+decreases-loop-k entries bytes₀ k₀ bytes k = length entries - k
 
 pub narrow_spec : {M : Type 1} → statement M
 narrow_spec =
     tie.close
     (tie.spec
-    invariant-loop
-    decreases-loop
-    -- loop-holds
+    invariant-loop-k
+    decreases-loop-k
+    -- loop-init
     (λ c. search rules)
     -- same-length
     (λ c. search rules)
@@ -37,9 +37,9 @@ narrow_spec =
     (λ c. search rules)
     -- add-k
     (λ c. search rules)
-    -- loop-less
+    -- loop-smaller
     (λ c. search rules)
-    -- loop-again
+    -- loop-preserved
     (λ c. search rules)
     -- same-length-2
     (λ c. search rules)

@@ -9,25 +9,23 @@ use borrow.Author.Rules.{rules}
 use Rattle.vectors.proofs.fields.read.Statement.{statement}
 use Rattle.vectors.proofs.fields.read.Tie as tie
 
-abbrev invariant-loop : tie.invariant-loop
-invariant-loop text places₀ i₀ places i = (length places ≡ length places₀) × (i ≤ length places₀)
+abbrev invariant-loop-i : tie.invariant-loop-i
+invariant-loop-i text places₀ i₀ places i = (length places ≡ length places₀) × (i ≤ length places₀)
 
-abbrev decreases-loop : tie.decreases-loop
-decreases-loop text places₀ i₀ places i = length text - i
+abbrev decreases-loop-i : tie.decreases-loop-i
+decreases-loop-i text places₀ i₀ places i = length text - i
 
 pub read_spec : {M : Type 1} → statement M
 read_spec =
     tie.close
     (tie.spec
-    invariant-loop
-    decreases-loop
-    -- slice-aggregate-same
-    (λ c. search rules)
+    invariant-loop-i
+    decreases-loop-i
     -- same-requires
     (λ c κs. search rules)
     -- returns
     (λ c. search rules)
-    -- loop-holds
+    -- loop-init
     (λ c. search rules)
     -- same-length
     (λ c. search rules)
@@ -41,9 +39,9 @@ read_spec =
     (λ c. search rules)
     -- add-i
     (λ c. search rules)
-    -- loop-less
+    -- loop-smaller
     (λ c. search rules)
-    -- loop-again
+    -- loop-preserved
     (λ c. search rules)
     -- same-length-2
     (λ c. search rules)

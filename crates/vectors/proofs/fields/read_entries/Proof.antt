@@ -9,25 +9,23 @@ use borrow.Author.Rules.{rules}
 use Rattle.vectors.proofs.fields.read_entries.Statement.{statement}
 use Rattle.vectors.proofs.fields.read_entries.Tie as tie
 
-abbrev invariant-loop : tie.invariant-loop
-invariant-loop text entries₀ start₀ k₀ entries start k = (length entries ≡ length entries₀) × (k ≤ length entries₀)
+abbrev invariant-loop-start : tie.invariant-loop-start
+invariant-loop-start text entries₀ start₀ k₀ entries start k = (length entries ≡ length entries₀) × (k ≤ length entries₀)
 
-abbrev decreases-loop : tie.decreases-loop
-decreases-loop text entries₀ start₀ k₀ entries start k = length text + 1 - start
+abbrev decreases-loop-start : tie.decreases-loop-start
+decreases-loop-start text entries₀ start₀ k₀ entries start k = length text + 1 - start
 
 pub read_entries_spec : {M : Type 1} → statement M
 read_entries_spec =
     tie.close
     (tie.spec
-    invariant-loop
-    decreases-loop
-    -- slice-aggregate-same
-    (λ c. search rules)
+    invariant-loop-start
+    decreases-loop-start
     -- same-requires
     (λ c κs. search rules)
     -- returns
     (λ c. search rules)
-    -- loop-holds
+    -- loop-init
     (λ c. search rules)
     -- same-length
     (λ c. search rules)
@@ -51,9 +49,9 @@ read_entries_spec =
     (λ c. search rules)
     -- add-k
     (λ c. search rules)
-    -- loop-less
+    -- loop-smaller
     (λ c. search rules)
-    -- loop-again
+    -- loop-preserved
     (λ c. search rules)
     -- same-length-2
     (λ c. search rules)

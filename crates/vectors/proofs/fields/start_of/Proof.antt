@@ -6,19 +6,19 @@ use borrow.Author.Rules.{rules}
 use Rattle.vectors.proofs.fields.start_of.Statement.{statement}
 use Rattle.vectors.proofs.fields.start_of.Tie as tie
 
-abbrev invariant-loop : tie.invariant-loop
-invariant-loop line k start₀ left₀ start left = start ≤ length line
+abbrev invariant-loop-left : tie.invariant-loop-left
+invariant-loop-left line k start₀ left₀ start left = start ≤ length line
 
-abbrev decreases-loop : tie.decreases-loop
-decreases-loop line k start₀ left₀ start left = left
+abbrev decreases-loop-left : tie.decreases-loop-left
+decreases-loop-left line k start₀ left₀ start left = left
 
 pub start_of_spec : {M : Type 1} → statement M
 start_of_spec =
     tie.close
     (tie.spec
-    invariant-loop
-    decreases-loop
-    -- loop-holds
+    invariant-loop-left
+    decreases-loop-left
+    -- loop-init
     (λ c. search rules)
     -- end-of-requires
     (λ c κs. search rules)
@@ -28,9 +28,9 @@ start_of_spec =
     (λ c. search rules)
     -- sub-left
     (λ c. search rules)
-    -- loop-less
+    -- loop-smaller
     (λ c. search rules)
-    -- loop-again
+    -- loop-preserved
     (λ c. search rules)
     -- returns-2
     (λ c. search rules))

@@ -9,19 +9,19 @@ use borrow.Author.Rules.{rules}
 use Rattle.vectors.proofs.report.put.Statement.{statement}
 use Rattle.vectors.proofs.report.put.Tie as tie
 
-abbrev invariant-loop : tie.invariant-loop
-invariant-loop text₀ at letters end₀ i₀ text end i = (length text ≡ length text₀) × (end ≤ length text₀)
+abbrev invariant-loop-i : tie.invariant-loop-i
+invariant-loop-i text₀ at letters end₀ i₀ text end i = (length text ≡ length text₀) × (end ≤ length text₀)
 
-abbrev decreases-loop : tie.decreases-loop
-decreases-loop text₀ at letters end₀ i₀ text end i = length letters - i
+abbrev decreases-loop-i : tie.decreases-loop-i
+decreases-loop-i text₀ at letters end₀ i₀ text end i = length letters - i
 
 pub put_spec : {M : Type 1} → statement M
 put_spec =
     tie.close
     (tie.spec
-    invariant-loop
-    decreases-loop
-    -- loop-holds
+    invariant-loop-i
+    decreases-loop-i
+    -- loop-init
     (λ c. search rules)
     -- same-length
     (λ c. search rules)
@@ -35,9 +35,9 @@ put_spec =
     (λ c. search rules)
     -- add-i
     (λ c. search rules)
-    -- loop-less
+    -- loop-smaller
     (λ c. search rules)
-    -- loop-again
+    -- loop-preserved
     (λ c. search rules)
     -- same-length-2
     (λ c. search rules)

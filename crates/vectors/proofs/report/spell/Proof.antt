@@ -9,27 +9,25 @@ use borrow.Author.Rules.{rules}
 use Rattle.vectors.proofs.report.spell.Statement.{statement}
 use Rattle.vectors.proofs.report.spell.Tie as tie
 
-abbrev invariant-loop : tie.invariant-loop
-invariant-loop places text₀ i₀ text i = (length text ≡ length text₀) × (i ≤ length text₀)
+abbrev invariant-loop-i : tie.invariant-loop-i
+invariant-loop-i places text₀ i₀ text i = (length text ≡ length text₀) × (i ≤ length text₀)
 
-abbrev decreases-loop : tie.decreases-loop
-decreases-loop places text₀ i₀ text i = length places - i
+abbrev decreases-loop-i : tie.decreases-loop-i
+decreases-loop-i places text₀ i₀ text i = length places - i
 
 pub spell_spec : {M : Type 1} → statement M
 spell_spec =
     tie.close
     (tie.spec
-    invariant-loop
-    decreases-loop
-    -- slice-aggregate-put
-    (λ c. search rules)
+    invariant-loop-i
+    decreases-loop-i
     -- put-requires
     (λ c κs. search rules)
     -- same-length
     (λ c. search rules)
     -- returns
     (λ c. search rules)
-    -- loop-holds
+    -- loop-init
     (λ c. search rules)
     -- same-length-2
     (λ c. search rules)
@@ -43,9 +41,9 @@ spell_spec =
     (λ c. search rules)
     -- add-i
     (λ c. search rules)
-    -- loop-less
+    -- loop-smaller
     (λ c. search rules)
-    -- loop-again
+    -- loop-preserved
     (λ c. search rules)
     -- same-length-3
     (λ c. search rules)

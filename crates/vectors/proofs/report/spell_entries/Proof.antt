@@ -9,20 +9,18 @@ use borrow.Author.Rules.{rules}
 use Rattle.vectors.proofs.report.spell_entries.Statement.{statement}
 use Rattle.vectors.proofs.report.spell_entries.Tie as tie
 
-abbrev invariant-loop : tie.invariant-loop
-invariant-loop entries text₀ at₀ k₀ t6 text at k = (length text ≡ length text₀) × (at ≤ length text₀)
+abbrev invariant-loop-k : tie.invariant-loop-k
+invariant-loop-k entries text₀ at₀ k₀ text at k = (length text ≡ length text₀) × (at ≤ length text₀)
 
-abbrev decreases-loop : tie.decreases-loop
-decreases-loop entries text₀ at₀ k₀ t6 text at k = length entries - k
+abbrev decreases-loop-k : tie.decreases-loop-k
+decreases-loop-k entries text₀ at₀ k₀ text at k = length entries - k
 
 pub spell_entries_spec : {M : Type 1} → statement M
 spell_entries_spec =
     tie.close
     (tie.spec
-    invariant-loop
-    decreases-loop
-    -- slice-aggregate-put
-    (λ c. search rules)
+    invariant-loop-k
+    decreases-loop-k
     -- put-requires
     (λ c κs. search rules)
     -- same-length
@@ -33,9 +31,7 @@ spell_entries_spec =
     (λ c. search rules)
     -- put-decimal-requires
     (λ c κs. search rules)
-    -- loop-holds
-    (λ c. search rules)
-    -- slice-aggregate-put-2
+    -- loop-init
     (λ c. search rules)
     -- put-requires-2
     (λ c κs. search rules)
@@ -47,9 +43,9 @@ spell_entries_spec =
     (λ c κs. search rules)
     -- add-k
     (λ c. search rules)
-    -- loop-less
+    -- loop-smaller
     (λ c. search rules)
-    -- loop-again
+    -- loop-preserved
     (λ c. search rules)
     -- same-length-2
     (λ c. search rules)

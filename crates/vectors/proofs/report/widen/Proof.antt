@@ -9,19 +9,19 @@ use borrow.Author.Rules.{rules}
 use Rattle.vectors.proofs.report.widen.Statement.{statement}
 use Rattle.vectors.proofs.report.widen.Tie as tie
 
-abbrev invariant-loop : tie.invariant-loop
-invariant-loop bytes entries₀ k₀ entries k = (length entries ≡ length entries₀) × (k ≤ length entries₀)
+abbrev invariant-loop-k : tie.invariant-loop-k
+invariant-loop-k bytes entries₀ k₀ entries k = (length entries ≡ length entries₀) × (k ≤ length entries₀)
 
-abbrev decreases-loop : tie.decreases-loop
-decreases-loop bytes entries₀ k₀ entries k = length bytes - k
+abbrev decreases-loop-k : tie.decreases-loop-k
+decreases-loop-k bytes entries₀ k₀ entries k = length bytes - k
 
 pub widen_spec : {M : Type 1} → statement M
 widen_spec =
     tie.close
     (tie.spec
-    invariant-loop
-    decreases-loop
-    -- loop-holds
+    invariant-loop-k
+    decreases-loop-k
+    -- loop-init
     (λ c. search rules)
     -- same-length
     (λ c. search rules)
@@ -37,9 +37,9 @@ widen_spec =
     (λ c. search rules)
     -- add-k
     (λ c. search rules)
-    -- loop-less
+    -- loop-smaller
     (λ c. search rules)
-    -- loop-again
+    -- loop-preserved
     (λ c. search rules)
     -- same-length-2
     (λ c. search rules)
