@@ -17,7 +17,7 @@ use shape::{Numbered, Outcome};
 
 // The refusal's number, 0 for none, and a value, 0 where there is none to tell.
 #[repr(C)]
-#[derive(Drop)]
+#[derive(Clone, Copy)]
 pub struct Reply {
     pub refusal: u64,
     pub value: u64,

@@ -12,7 +12,7 @@ use shape::Outcome;
 
 // A part of a lent slice: of which one, 0 the first and 1 the second, from where, and how many places.
 #[repr(C)]
-#[derive(Drop)]
+#[derive(Clone, Copy)]
 pub struct Part {
     pub slice: usize,
     pub offset: usize,

@@ -9,7 +9,7 @@ use run::{Progress, Run};
 use shape::Outcome;
 
 #[repr(C)]
-#[derive(Drop)]
+#[derive(Clone, Copy)]
 pub struct Started {
     pub refusal: u64,
     pub run: Run,
@@ -17,7 +17,7 @@ pub struct Started {
 
 // `handed` is 1 where a shape was handed out, and 0 at the end and for a refusal.
 #[repr(C)]
-#[derive(Drop)]
+#[derive(Clone, Copy)]
 pub struct Stepped {
     pub refusal: u64,
     pub handed: u64,

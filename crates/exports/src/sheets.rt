@@ -6,7 +6,7 @@ ghost use Rattle.exports.specs.Crossing.{fill_told};
 use lines::Sheet;
 
 #[repr(C)]
-#[derive(Drop)]
+#[derive(Clone, Copy)]
 pub struct Filled {
     pub refusal: u64,
     pub bytes: u64,

@@ -17,7 +17,7 @@ use run::{Progress, Run};
 use shape::{Numbered, Outcome, Refusal};
 
 #[repr(C)]
-#[derive(Drop)]
+#[derive(Clone, Copy)]
 pub struct Sheet {
     // the number of the refusal that the NO line tells, 0 for none
     pub refusal: u64,
@@ -32,7 +32,7 @@ pub struct Sheet {
 }
 
 // What filling a buffer answers: how many bytes of it were written, 0 once the sheet has ended, and the sheet as it then stands.
-#[derive(Drop)]
+#[derive(Clone, Copy)]
 pub struct Filled {
     pub bytes: Numbered,
     pub sheet: Sheet,

@@ -16,7 +16,7 @@ ghost use Rattle.lines.specs.Calls.{standing, listed as lines_in, listed_lines a
 use run::Run;
 
 // The run moved on past the shapes whose lines were put, and how many bytes these lines have.
-#[derive(Drop)]
+#[derive(Clone, Copy)]
 pub(crate) struct Listed {
     pub bytes: usize,
     pub run: Run,
@@ -68,7 +68,7 @@ fn places_left(next: u64, end: u64, places: [u8; 70]) -> [u8; 70]
 }
 
 // How far the lines went: the number of the shape that comes next, the figure so far, and how many bytes were put.
-#[derive(Drop)]
+#[derive(Clone, Copy)]
 struct Walked {
     next: u64,
     figure: u64,

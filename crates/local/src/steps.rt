@@ -7,7 +7,7 @@ ghost use Rattle.local.specs.Places.{block_start, pairs_start, every_second};
 ghost use Rattle.local.specs.Places.{next_change, next_pattern, previous_change, previous_pattern};
 
 // The rightmost block of ones: the places from `start` on and before `end`. Behind it stand zeros alone.
-#[derive(Drop)]
+#[derive(Clone, Copy)]
 pub struct Block {
     pub start: usize,
     pub end: usize,

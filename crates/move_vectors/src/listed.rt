@@ -1,7 +1,7 @@
 // A whole list in its order: every shape moved to every shape, and past both ends.
 
 // Of patterns, or of tree permutations.
-#[derive(Drop)]
+#[derive(Clone, Copy)]
 pub(crate) enum Order {
     Local,
     Natural,

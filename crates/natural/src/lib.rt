@@ -55,7 +55,7 @@ fn fewer_left(catalans: &[u64; 37], others: usize, left: usize) -> u64
 }
 
 // How many nodes stand on the left, and the number among the trees that have so many there.
-#[derive(Drop)]
+#[derive(Clone, Copy)]
 struct Split {
     left: usize,
     rest: u64,

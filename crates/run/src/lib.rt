@@ -13,7 +13,7 @@ use shape::{Outcome, Refusal};
 
 // Laid out as C lays it out, since a state is handed to programs in C as it is.
 #[repr(C)]
-#[derive(Drop)]
+#[derive(Clone, Copy)]
 pub struct Run {
     pub size: usize,
     // the number of the shape that comes next
@@ -27,14 +27,14 @@ pub struct Run {
 }
 
 // What a start answers: the run, all 0 where it was refused.
-#[derive(Drop)]
+#[derive(Clone, Copy)]
 pub struct Started {
     pub outcome: Outcome,
     pub run: Run,
 }
 
 // A shape was handed out, none is left, or the state was refused.
-#[derive(Drop)]
+#[derive(Clone, Copy)]
 pub enum Progress {
     Handed,
     Done,
@@ -42,7 +42,7 @@ pub enum Progress {
 }
 
 // What a step answers: the run moved on, and the pattern that it handed out with its change, all 0 where it handed out none.
-#[derive(Drop)]
+#[derive(Clone, Copy)]
 pub struct Stepped {
     pub progress: Progress,
     pub run: Run,

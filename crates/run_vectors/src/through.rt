@@ -3,14 +3,14 @@ use crate::state;
 use run::{Progress, Run, Stepped};
 
 // How many fields of a list were handed out, and the figures of the runs so far, added up.
-#[derive(Drop)]
+#[derive(Clone, Copy)]
 struct Walk {
     at: usize,
     figure: u64,
 }
 
 // The step that handed out none, the figure before it, and how many fields of the list were handed out before it.
-#[derive(Drop)]
+#[derive(Clone, Copy)]
 struct Walked {
     last: Stepped,
     figure: u64,

@@ -8,7 +8,7 @@ ghost use Rattle.shape.specs.Reply.{refusal_number};
 ghost use Rattle.shape.specs.Check.{length_of, room_of};
 
 // How a shape is written.
-#[derive(Drop)]
+#[derive(Clone, Copy)]
 pub enum Form {
     Pattern,
     Permutation,
@@ -18,7 +18,7 @@ pub enum Form {
 
 // Why a call refuses, in the order of the refusals' numbers, 1 to 11. Where several apply, a call gives the first, but for the
 // exceptions that the scope lists.
-#[derive(Drop)]
+#[derive(Clone, Copy)]
 pub enum Refusal {
     // 0 or above 35
     Size,
@@ -45,14 +45,14 @@ pub enum Refusal {
 }
 
 // Done, or refused.
-#[derive(Drop)]
+#[derive(Clone, Copy)]
 pub enum Outcome {
     Done,
     Refused(Refusal),
 }
 
 // A number, or refused.
-#[derive(Drop)]
+#[derive(Clone, Copy)]
 pub enum Numbered {
     Value(u64),
     Refused(Refusal),

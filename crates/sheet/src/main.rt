@@ -42,7 +42,7 @@ fn print(sheet: Sheet) {
 }
 
 // How many bytes of the buffer hold lines, and the sheet as it then stands.
-#[derive(Drop)]
+#[derive(Clone, Copy)]
 struct Batch {
     bytes: usize,
     sheet: Sheet,

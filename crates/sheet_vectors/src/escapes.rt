@@ -3,7 +3,7 @@ ghost use Rattle.std.specs.Prelude.{◌≡◌, ◌≤◌, ◌<◌, length};
 ghost use Rattle.io.specs.Counts.{IsPrefixLen};
 
 // A byte that stands so many times in the input, and the length of what shows it.
-#[derive(Drop)]
+#[derive(Clone, Copy)]
 struct Shown {
     byte: u8,
     times: usize,

@@ -4,7 +4,7 @@ ghost use Rattle.shape.specs.Every.{All};
 ghost use Rattle.text.specs.Input.{Digit, front, value, in_form, fits, field as is_field, next, reads, asked_size, asked_first, asked_end};
 
 // What an input asks for; all 0 where it does not read as such a line.
-#[derive(Drop)]
+#[derive(Clone, Copy)]
 pub struct Asked {
     pub reads: bool,
     pub size: u64,
@@ -13,7 +13,7 @@ pub struct Asked {
 }
 
 // A number that stands in a text, with the byte asked for behind it: whether there is one, its value, and where the text goes on.
-#[derive(Drop)]
+#[derive(Clone, Copy)]
 struct Part {
     reads: bool,
     value: u64,
