@@ -19,7 +19,7 @@ hand_out_spec =
     let s = known.args.sheet in
     let out = known.args.out.now in
     let passed = known.requires in
-    let piece = piece_over s out passed c.before.if1.true in
+    let piece = piece_over s out passed c.before.if-sheet.true in
     piece_answers s out passed piece refl refl
     c.handed.result c.handed.ensures.0 c.handed.ensures.1)
     -- put-no-requires
@@ -37,9 +37,9 @@ hand_out_spec =
     let s = known.args.sheet in
     let out = known.args.out.now in
     let passed = known.requires in
-    let piece = piece_no s out passed going.if1.false told.if2.true in
-    piece_answers s out passed piece put.put-no.ensures.0 put.put-no.ensures.1
-    c.handed2.result c.handed2.ensures.0 c.handed2.ensures.1)
+    let piece = piece_no s out passed going.if-sheet.false told.if-sheet-ne0.true in
+    piece_answers s out passed piece put.put_no-bytes.ensures.0 put.put_no-bytes.ensures.1
+    c.handed-then-sheet-ne0.result c.handed-then-sheet-ne0.ensures.0 c.handed-then-sheet-ne0.ensures.1)
     -- put-run-requires
     (λ c κs. search pieces)
     -- handed-requires-3
@@ -56,9 +56,9 @@ hand_out_spec =
     let s = known.args.sheet in
     let out = known.args.out.now in
     let passed = known.requires in
-    let piece = piece_first s out passed going.if1.false told.if2.false closed.if3.true in
-    piece_answers s out passed piece put.put-run.ensures.0 put.put-run.ensures.1
-    c.handed3.result c.handed3.ensures.0 c.handed3.ensures.1)
+    let piece = piece_first s out passed going.if-sheet.false told.if-sheet-ne0.false closed.if-not-sheet.true in
+    piece_answers s out passed piece put.put_run-bytes.ensures.0 put.put_run-bytes.ensures.1
+    c.handed-then-not-sheet.result c.handed-then-not-sheet.ensures.0 c.handed-then-not-sheet.ensures.1)
     -- sub-put-end
     (λ c. search pieces)
     -- put-end-requires
@@ -78,9 +78,9 @@ hand_out_spec =
     let s = known.args.sheet in
     let out = known.args.out.now in
     let passed = known.requires in
-    let piece = piece_last s out passed going.if1.false told.if2.false opened.if3.false last.if4.true in
-    piece_answers s out passed piece put.put-end.ensures.0 put.put-end.ensures.1
-    c.handed4.result c.handed4.ensures.0 c.handed4.ensures.1)
+    let piece = piece_last s out passed going.if-sheet.false told.if-sheet-ne0.false opened.if-not-sheet.false last.if-run.true in
+    piece_answers s out passed piece put.put_end-bytes.ensures.0 put.put_end-bytes.ensures.1
+    c.handed-then-run.result c.handed-then-run.ensures.0 c.handed-then-run.ensures.1)
     -- list-requires
     (λ c κs. search pieces)
     -- handed-requires-5
@@ -95,10 +95,10 @@ hand_out_spec =
     let told = opened.before.before in
     let going = told.before.before in
     let known = going.before.before.before in
-    let (bytes, (run, put)) = listed.list.ensures in
+    let (bytes, (run, put)) = listed.list-listed.ensures in
     let s = known.args.sheet in
     let out = known.args.out.now in
     let passed = known.requires in
-    let piece = piece_shapes s out passed going.if1.false told.if2.false opened.if3.false other.if4.false in
+    let piece = piece_shapes s out passed going.if-sheet.false told.if-sheet-ne0.false opened.if-not-sheet.false other.if-run.false in
     piece_answers s out passed piece bytes put
-    c.handed5.result c.handed5.ensures.0 (c.handed5.ensures.1 ∙ ap (sheet_with s true false) run)))
+    c.handed-2.result c.handed-2.ensures.0 (c.handed-2.ensures.1 ∙ ap (sheet_with s true false) run)))

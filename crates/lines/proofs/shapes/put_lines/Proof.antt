@@ -34,8 +34,8 @@ ruleset turn = (
   put_stopped,
 )
 
-abbrev invariant-loop : tie.invariant-loop
-invariant-loop
+abbrev invariant-loop-out : tie.invariant-loop-out
+invariant-loop-out
     size first end before places₀ entries₀ depths₀ out₀ digits₀ width₀ change₀ figure₀ next₀ at₀ places entries depths out digits width change figure
     next at =
     Put size first end before out₀ out figure next at
@@ -44,8 +44,8 @@ invariant-loop
     × (length entries ≡ length entries₀)
     × (length depths ≡ length depths₀)
 
-abbrev decreases-loop : tie.decreases-loop
-decreases-loop
+abbrev decreases-loop-out : tie.decreases-loop-out
+decreases-loop-out
     size first end before places₀ entries₀ depths₀ out₀ digits₀ width₀ change₀ figure₀ next₀ at₀ places entries depths out digits width change figure
     next at =
     end - next
@@ -54,8 +54,8 @@ pub put_lines_spec : {M : Type 1} → statement M
 put_lines_spec =
     tie.close
     (tie.spec
-    invariant-loop
-    decreases-loop
+    invariant-loop-out
+    decreases-loop-out
     -- slice-aggregate-put-number
     (λ c. search turn)
     -- put-number-requires
@@ -83,9 +83,9 @@ put_lines_spec =
     -- mul-depth
     (λ c. search turn)
     -- slice-read-depth
-    (λ c. holds_deepest c.before.before.before.loop.invariant.1)
+    (λ c. holds_deepest c.before.before.before.loop-out.invariant.1)
     -- cast-depth
-    (λ c. holds_deep c.before.before.before.loop.invariant.1)
+    (λ c. holds_deep c.before.before.before.loop-out.invariant.1)
     -- sub-put-shape
     (λ c. search turn)
     -- part-put-shape-start
@@ -94,7 +94,7 @@ put_lines_spec =
     (λ c. search turn)
     -- put-shape-requires
     (λ c κs.
-    let held = c.before.before.before.before.before.before.before.before.loop.invariant.1 in
+    let held = c.before.before.before.before.before.before.before.before.loop-out.invariant.1 in
     ((search turn, search turn, search turn), ((search turn, search turn), (search turn, search turn, holds_shallow held, search turn))))
     -- add-figure
     (λ c. search turn)
@@ -112,37 +112,37 @@ put_lines_spec =
     (λ c.
     let shaped = c.before.before.before in
     let chosen = shaped.before.before.before.before.before.before.before in
-    let inv = chosen.before.before.loop.invariant in
+    let inv = chosen.before.before.loop-out.invariant in
     let put =
-    put_next inv.0 inv.1 chosen.if1.false chosen.before.loop-test.true shaped.put-shape.ensures.0
-    shaped.put-shape.ensures.1 (search turn) in
+    put_next inv.0 inv.1 chosen.if-figure-change.false chosen.before.loop-out-test.true shaped.put_shape-at.ensures.0
+    shaped.put_shape-at.ensures.1 (search turn) in
     (put_last put (search turn), (put.figure, (put.bytes, (put.put, λ l. absurd (omega arith))))))
     -- next-requires
     (λ c κs.
     let other = c.before.before.before in
-    let held = other.before.before.before.before.before.before.before.before.before.before.before.before.loop.invariant.1 in
+    let held = other.before.before.before.before.before.before.before.before.before.before.before.before.loop-out.invariant.1 in
     ((held.small, holds_formed held, held.labels), held.deep))
     -- slice-aggregate-count-up
     (λ c. search turn)
     -- count-up-requires
     (λ c κs.
     let other = c.before.before.before.before.before.before.before.before.before.before.before in
-    holds_width other.before.before.before.before.before.before.before.before.before.before.before.before.loop.invariant.1)
+    holds_width other.before.before.before.before.before.before.before.before.before.before.before.before.loop-out.invariant.1)
     -- loop-less
     (λ c. search turn)
     -- loop-again
     (λ c.
-    let counted = c.before.count-up.ensures in
+    let counted = c.before.count_up-width.ensures in
     let stepped = c.before.before.before.before.before.before.before.before.before in
     let other = stepped.before.before.before.before in
     let shaped = other.before.before.before in
     let chosen = shaped.before.before.before.before.before.before.before in
-    let inv = chosen.before.before.loop.invariant in
+    let inv = chosen.before.before.loop-out.invariant in
     let put =
-    put_next inv.0 inv.1 chosen.if1.false chosen.before.loop-test.true shaped.put-shape.ensures.0
-    shaped.put-shape.ensures.1 (search turn) in
-    let (change, (pattern, (labels, deep))) = stepped.next.ensures in
-    let held = holds_next inv.1 other.if2.false change pattern labels deep counted.0 counted.1.0 counted.1.1 in
+    put_next inv.0 inv.1 chosen.if-figure-change.false chosen.before.loop-out-test.true shaped.put_shape-at.ensures.0
+    shaped.put_shape-at.ensures.1 (search turn) in
+    let (change, (pattern, (labels, deep))) = stepped.next-change.ensures in
+    let held = holds_next inv.1 other.if-next-end.false change pattern labels deep counted.0 counted.1.0 counted.1.1 in
     (put, held, search turn, search turn, search turn))
     -- same-length-9
     (λ c. search turn)

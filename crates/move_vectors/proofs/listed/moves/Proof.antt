@@ -4,18 +4,18 @@ use Rattle.std.proofs.Common.{◌-◌, length, rules}
 use Rattle.move_vectors.proofs.listed.moves.Statement.{statement}
 use Rattle.move_vectors.proofs.listed.moves.Tie as tie
 
-abbrev invariant-loop : tie.invariant-loop
-invariant-loop order size list right₀ i₀ right i = Unit
+abbrev invariant-loop-i : tie.invariant-loop-i
+invariant-loop-i order size list right₀ i₀ right i = Unit
 
-abbrev decreases-loop : tie.decreases-loop
-decreases-loop order size list right₀ i₀ right i = length list - i
+abbrev decreases-loop-i : tie.decreases-loop-i
+decreases-loop-i order size list right₀ i₀ right i = length list - i
 
 pub moves_spec : {M : Type 1} → statement M
 moves_spec =
     tie.close
     (tie.spec
-    invariant-loop
-    decreases-loop
+    invariant-loop-i
+    decreases-loop-i
     -- loop-holds
     (λ c. search rules)
     -- field-requires

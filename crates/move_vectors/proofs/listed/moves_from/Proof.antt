@@ -4,18 +4,18 @@ use Rattle.std.proofs.Common.{◌-◌, length, rules}
 use Rattle.move_vectors.proofs.listed.moves_from.Statement.{statement}
 use Rattle.move_vectors.proofs.listed.moves_from.Tie as tie
 
-abbrev invariant-loop : tie.invariant-loop
-invariant-loop order size i from list right₀ j₀ right j = Unit
+abbrev invariant-loop-j : tie.invariant-loop-j
+invariant-loop-j order size i from list right₀ j₀ right j = Unit
 
-abbrev decreases-loop : tie.decreases-loop
-decreases-loop order size i from list right₀ j₀ right j = length list - j
+abbrev decreases-loop-j : tie.decreases-loop-j
+decreases-loop-j order size i from list right₀ j₀ right j = length list - j
 
 pub moves_from_spec : {M : Type 1} → statement M
 moves_from_spec =
     tie.close
     (tie.spec
-    invariant-loop
-    decreases-loop
+    invariant-loop-j
+    decreases-loop-j
     -- loop-holds
     (λ c. search rules)
     -- field-requires

@@ -4,18 +4,18 @@ use Rattle.std.proofs.Common.{◌-◌, length, rules}
 use Rattle.move_vectors.proofs.listed.shapes.Statement.{statement}
 use Rattle.move_vectors.proofs.listed.shapes.Tie as tie
 
-abbrev invariant-loop : tie.invariant-loop
-invariant-loop list k₀ k = Unit
+abbrev invariant-loop-k : tie.invariant-loop-k
+invariant-loop-k list k₀ k = Unit
 
-abbrev decreases-loop : tie.decreases-loop
-decreases-loop list k₀ k = length list - k
+abbrev decreases-loop-k : tie.decreases-loop-k
+decreases-loop-k list k₀ k = length list - k
 
 pub shapes_spec : {M : Type 1} → statement M
 shapes_spec =
     tie.close
     (tie.spec
-    invariant-loop
-    decreases-loop
+    invariant-loop-k
+    decreases-loop-k
     -- loop-holds
     (λ c. search rules)
     -- field-requires

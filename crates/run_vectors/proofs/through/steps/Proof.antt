@@ -4,18 +4,18 @@ use Rattle.std.proofs.Common.{◌-◌, length, rules}
 use Rattle.run_vectors.proofs.through.steps.Statement.{statement}
 use Rattle.run_vectors.proofs.through.steps.Tie as tie
 
-abbrev invariant-loop : tie.invariant-loop
-invariant-loop list start figure₀ last₀ at₀ figure last at = Unit
+abbrev invariant-loop-at : tie.invariant-loop-at
+invariant-loop-at list start figure₀ last₀ at₀ figure last at = Unit
 
-abbrev decreases-loop : tie.decreases-loop
-decreases-loop list start figure₀ last₀ at₀ figure last at = length list - at
+abbrev decreases-loop-at : tie.decreases-loop-at
+decreases-loop-at list start figure₀ last₀ at₀ figure last at = length list - at
 
 pub steps_spec : {M : Type 1} → statement M
 steps_spec =
     tie.close
     (tie.spec
-    invariant-loop
-    decreases-loop
+    invariant-loop-at
+    decreases-loop-at
     -- step-requires
     (λ c κs. search rules)
     -- loop-holds
