@@ -15,11 +15,10 @@ hand_out_spec =
     (λ c κs. search pieces)
     -- returns
     (λ c.
-    let known = c.before.before.before.before in
-    let s = known.args.sheet in
-    let out = known.args.out.now in
-    let passed = known.requires in
-    let piece = piece_over s out passed c.before.if-sheet.true in
+    let s = c.args.sheet in
+    let out = c.args.out.now in
+    let passed = c.requires in
+    let piece = piece_over s out passed c.if-sheet.true in
     piece_answers s out passed piece refl refl
     c.handed.result c.handed.ensures.0 c.handed.ensures.1)
     -- put-no-requires
@@ -30,15 +29,11 @@ hand_out_spec =
     (λ c. search pieces)
     -- returns-2
     (λ c.
-    let put = c.before.before.before in
-    let told = put.before.before in
-    let going = told.before.before in
-    let known = going.before.before.before in
-    let s = known.args.sheet in
-    let out = known.args.out.now in
-    let passed = known.requires in
-    let piece = piece_no s out passed going.if-sheet.false told.if-sheet-ne0.true in
-    piece_answers s out passed piece put.put_no-bytes.ensures.0 put.put_no-bytes.ensures.1
+    let s = c.args.sheet in
+    let out = c.args.out.now in
+    let passed = c.requires in
+    let piece = piece_no s out passed c.if-sheet.false c.if-sheet-ne0.true in
+    piece_answers s out passed piece c.put_no-bytes.ensures.0 c.put_no-bytes.ensures.1
     c.handed-then-sheet-ne0.result c.handed-then-sheet-ne0.ensures.0 c.handed-then-sheet-ne0.ensures.1)
     -- put-run-requires
     (λ c κs. search pieces)
@@ -48,16 +43,11 @@ hand_out_spec =
     (λ c. search pieces)
     -- returns-3
     (λ c.
-    let put = c.before.before.before in
-    let closed = put.before.before in
-    let told = closed.before.before in
-    let going = told.before.before in
-    let known = going.before.before.before in
-    let s = known.args.sheet in
-    let out = known.args.out.now in
-    let passed = known.requires in
-    let piece = piece_first s out passed going.if-sheet.false told.if-sheet-ne0.false closed.if-not-sheet.true in
-    piece_answers s out passed piece put.put_run-bytes.ensures.0 put.put_run-bytes.ensures.1
+    let s = c.args.sheet in
+    let out = c.args.out.now in
+    let passed = c.requires in
+    let piece = piece_first s out passed c.if-sheet.false c.if-sheet-ne0.false c.if-not-sheet.true in
+    piece_answers s out passed piece c.put_run-bytes.ensures.0 c.put_run-bytes.ensures.1
     c.handed-then-not-sheet.result c.handed-then-not-sheet.ensures.0 c.handed-then-not-sheet.ensures.1)
     -- sub-put-end
     (λ c. search pieces)
@@ -69,17 +59,11 @@ hand_out_spec =
     (λ c. search pieces)
     -- returns-4
     (λ c.
-    let put = c.before.before.before in
-    let last = put.before.before.before.before in
-    let opened = last.before.before in
-    let told = opened.before.before in
-    let going = told.before.before in
-    let known = going.before.before.before in
-    let s = known.args.sheet in
-    let out = known.args.out.now in
-    let passed = known.requires in
-    let piece = piece_last s out passed going.if-sheet.false told.if-sheet-ne0.false opened.if-not-sheet.false last.if-run.true in
-    piece_answers s out passed piece put.put_end-bytes.ensures.0 put.put_end-bytes.ensures.1
+    let s = c.args.sheet in
+    let out = c.args.out.now in
+    let passed = c.requires in
+    let piece = piece_last s out passed c.if-sheet.false c.if-sheet-ne0.false c.if-not-sheet.false c.if-run.true in
+    piece_answers s out passed piece c.put_end-bytes.ensures.0 c.put_end-bytes.ensures.1
     c.handed-then-run.result c.handed-then-run.ensures.0 c.handed-then-run.ensures.1)
     -- list-requires
     (λ c κs. search pieces)
@@ -89,16 +73,10 @@ hand_out_spec =
     (λ c. search pieces)
     -- returns-5
     (λ c.
-    let listed = c.before.before.before.before in
-    let other = listed.before.before in
-    let opened = other.before.before in
-    let told = opened.before.before in
-    let going = told.before.before in
-    let known = going.before.before.before in
-    let (bytes, (run, put)) = listed.list-listed.ensures in
-    let s = known.args.sheet in
-    let out = known.args.out.now in
-    let passed = known.requires in
-    let piece = piece_shapes s out passed going.if-sheet.false told.if-sheet-ne0.false opened.if-not-sheet.false other.if-run.false in
+    let (bytes, (run, put)) = c.list-listed.ensures in
+    let s = c.args.sheet in
+    let out = c.args.out.now in
+    let passed = c.requires in
+    let piece = piece_shapes s out passed c.if-sheet.false c.if-sheet-ne0.false c.if-not-sheet.false c.if-run.false in
     piece_answers s out passed piece bytes put
     c.handed-2.result c.handed-2.ensures.0 (c.handed-2.ensures.1 ∙ ap (sheet_with s true false) run)))

@@ -40,7 +40,6 @@ print_spec =
     (λ c. search rules)
     -- loop-less
     (λ c.
-    let some = c.before.before.before.before.before in
-    some.before.before.before.collect.ensures.1.0 (omega (arith, some.if1.false)))
+    c.collect.ensures.1.0 (omega (arith, c.if1.false)))
     -- loop-again
     (λ c. search rules))

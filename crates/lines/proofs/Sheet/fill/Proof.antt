@@ -22,8 +22,5 @@ fill_spec =
     (λ c. search fills)
     -- returns-2
     (λ c.
-    let piece = c.before.before in
-    let checked = piece.before.before.before.before in
-    let known = checked.before.before in
-    fill_answers known.args.self known.args.out.now checked.check.ensures (search fills) piece.hand-out.result
-    piece.hand-out.ensures))
+    fill_answers c.args.self c.args.out.now c.check.ensures (search fills) c.hand_out.result
+    c.hand_out.ensures))

@@ -60,9 +60,7 @@ list_spec =
     (λ c. search carries)
     -- part-entries-end-2
     (λ c.
-    let deep = c.before.before in
-    let written = deep.before.before.before.before.before in
-    run_held _ written.before.before.before.before.before.before.requires _ written.permutation-of.ensures _)
+    run_held _ c.requires _ c.permutation_of.ensures _)
     -- mul-put-lines-2
     (λ c. search carries)
     -- add-put-lines
@@ -73,15 +71,12 @@ list_spec =
     (λ c. search carries)
     -- part-depths-end-3
     (λ c.
-    let deep = c.before.before.before in
-    run_covered _ deep.before.before.before.before.before.before.before.before.before.before.before.requires _ deep.depths.ensures _)
+    run_covered _ c.requires _ c.depths.ensures _)
     -- put-lines-requires
     (λ c κs.
-    let deep = c.before.before.before.before.before in
-    let written = deep.before.before.before.before.before in
-    let handed = written.before.before.before.before.before.before.requires in
-    let labels = run_labels _ handed _ written.permutation-of.ensures _ in
-    let depths = run_deep _ handed _ deep.depths.ensures _ in
+    let handed = c.requires in
+    let labels = run_labels _ handed _ c.permutation_of.ensures _ in
+    let depths = run_deep _ handed _ c.depths.ensures _ in
     ((run_some _ handed, run_small _ handed, run_on _ handed, run_within _ handed), (run_pattern _ handed, labels, depths)))
     -- places-left-requires
     (λ c κs. search carries)
@@ -89,10 +84,8 @@ list_spec =
     (λ c. search carries)
     -- returns
     (λ c.
-    let walked = c.before.before.before.before.before.before in
-    let deep = walked.before.before.before.before.before.before in
-    let handed = deep.before.before.before.before.before.before.before.before.before.before.before.requires in
-    let (next, (figure, (bytes, (out, places)))) = walked.put_lines-walked.ensures in (
+    let handed = c.requires in
+    let (next, (figure, (bytes, (out, places)))) = c.put_lines-walked.ensures in (
       listed_bytes _ handed _ next _ bytes,
-      (listed_run _ handed _ next _ places _ figure c.places-left.ensures, listed_out _ handed _ next _ _ out),
+      (listed_run _ handed _ next _ places _ figure c.places_left.ensures, listed_out _ handed _ next _ _ out),
     )))

@@ -83,9 +83,9 @@ put_lines_spec =
     -- mul-depth
     (λ c. search turn)
     -- slice-read-depth
-    (λ c. holds_deepest c.before.before.before.loop-out.invariant.1)
+    (λ c. holds_deepest c.loop-out.invariant.1)
     -- cast-depth
-    (λ c. holds_deep c.before.before.before.loop-out.invariant.1)
+    (λ c. holds_deep c.loop-out.invariant.1)
     -- sub-put-shape
     (λ c. search turn)
     -- part-put-shape-start
@@ -94,7 +94,7 @@ put_lines_spec =
     (λ c. search turn)
     -- put-shape-requires
     (λ c κs.
-    let held = c.before.before.before.before.before.before.before.before.loop-out.invariant.1 in
+    let held = c.loop-out.invariant.1 in
     ((search turn, search turn, search turn), ((search turn, search turn), (search turn, search turn, holds_shallow held, search turn))))
     -- add-figure
     (λ c. search turn)
@@ -110,39 +110,31 @@ put_lines_spec =
     (λ c. search turn)
     -- returns-2
     (λ c.
-    let shaped = c.before.before.before in
-    let chosen = shaped.before.before.before.before.before.before.before in
-    let inv = chosen.before.before.loop-out.invariant in
+    let inv = c.loop-out.invariant in
     let put =
-    put_next inv.0 inv.1 chosen.if-figure-change.false chosen.before.loop-out-test.true shaped.put_shape-at.ensures.0
-    shaped.put_shape-at.ensures.1 (search turn) in
+    put_next inv.0 inv.1 c.if-figure-change.false c.loop-out-test.true c.put_shape-at.ensures.0
+    c.put_shape-at.ensures.1 (search turn) in
     (put_last put (search turn), (put.figure, (put.bytes, (put.put, λ l. absurd (omega arith))))))
     -- next-requires
     (λ c κs.
-    let other = c.before.before.before in
-    let held = other.before.before.before.before.before.before.before.before.before.before.before.before.loop-out.invariant.1 in
+    let held = c.loop-out.invariant.1 in
     ((held.small, holds_formed held, held.labels), held.deep))
     -- slice-aggregate-count-up
     (λ c. search turn)
     -- count-up-requires
     (λ c κs.
-    let other = c.before.before.before.before.before.before.before.before.before.before.before in
-    holds_width other.before.before.before.before.before.before.before.before.before.before.before.before.loop-out.invariant.1)
+    holds_width c.loop-out.invariant.1)
     -- loop-less
     (λ c. search turn)
     -- loop-again
     (λ c.
-    let counted = c.before.count_up-width.ensures in
-    let stepped = c.before.before.before.before.before.before.before.before.before in
-    let other = stepped.before.before.before.before in
-    let shaped = other.before.before.before in
-    let chosen = shaped.before.before.before.before.before.before.before in
-    let inv = chosen.before.before.loop-out.invariant in
+    let counted = c.count_up-width.ensures in
+    let inv = c.loop-out.invariant in
     let put =
-    put_next inv.0 inv.1 chosen.if-figure-change.false chosen.before.loop-out-test.true shaped.put_shape-at.ensures.0
-    shaped.put_shape-at.ensures.1 (search turn) in
-    let (change, (pattern, (labels, deep))) = stepped.next-change.ensures in
-    let held = holds_next inv.1 other.if-next-end.false change pattern labels deep counted.0 counted.1.0 counted.1.1 in
+    put_next inv.0 inv.1 c.if-figure-change.false c.loop-out-test.true c.put_shape-at.ensures.0
+    c.put_shape-at.ensures.1 (search turn) in
+    let (change, (pattern, (labels, deep))) = c.next-change.ensures in
+    let held = holds_next inv.1 c.if-next-end.false change pattern labels deep counted.0 counted.1.0 counted.1.1 in
     (put, held, search turn, search turn, search turn))
     -- same-length-9
     (λ c. search turn)
