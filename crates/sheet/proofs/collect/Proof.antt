@@ -9,18 +9,18 @@ use Rattle.sheet.proofs.collect.Tie as tie
 
 ruleset turn = (rules, none_collected, in_use, handed_still, full_batch, none_more, bytes_fit, next_falls, next_collected)
 
-abbrev invariant-loop : tie.invariant-loop
-invariant-loop buffer₀ left₀ at₀ buffer left at = Collected left₀ buffer₀ buffer left at
+abbrev invariant-loop-buffer : tie.invariant-loop-buffer
+invariant-loop-buffer buffer₀ left₀ at₀ buffer left at = Collected left₀ buffer₀ buffer left at
 
-abbrev decreases-loop : tie.decreases-loop
-decreases-loop buffer₀ left₀ at₀ buffer left at = lines_left left
+abbrev decreases-loop-buffer : tie.decreases-loop-buffer
+decreases-loop-buffer buffer₀ left₀ at₀ buffer left at = lines_left left
 
 pub collect_spec : {M : Type 1} → statement M
 collect_spec =
     tie.close
     (tie.spec
-    invariant-loop
-    decreases-loop
+    invariant-loop-buffer
+    decreases-loop-buffer
     -- loop-holds
     (λ c. search turn)
     -- sub-loop

@@ -6,18 +6,18 @@ use borrow.Author.Rules.{rules}
 use Rattle.sheet.proofs.print.Statement.{statement}
 use Rattle.sheet.proofs.print.Tie as tie
 
-abbrev invariant-loop : tie.invariant-loop
-invariant-loop buffer₀ left₀ buffer left = Unit
+abbrev invariant-loop-buffer : tie.invariant-loop-buffer
+invariant-loop-buffer buffer₀ left₀ buffer left = Unit
 
-abbrev decreases-loop : tie.decreases-loop
-decreases-loop buffer₀ left₀ buffer left = lines_left left
+abbrev decreases-loop-buffer : tie.decreases-loop-buffer
+decreases-loop-buffer buffer₀ left₀ buffer left = lines_left left
 
 pub print_spec : {M : Type 1} → statement M
 print_spec =
     tie.close
     (tie.spec
-    invariant-loop
-    decreases-loop
+    invariant-loop-buffer
+    decreases-loop-buffer
     -- large-buffer-requires
     (λ c κs. search rules)
     -- slice-aggregate-buffer
@@ -40,6 +40,6 @@ print_spec =
     (λ c. search rules)
     -- loop-less
     (λ c.
-    c.collect.ensures.1.0 (omega (arith, c.if1.false)))
+    c.collect-batch.ensures.1.0 (omega (arith, c.if-bytes-eq0.false)))
     -- loop-again
     (λ c. search rules))

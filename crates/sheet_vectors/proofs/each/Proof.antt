@@ -6,18 +6,18 @@ use borrow.Author.Rules.{rules}
 use Rattle.sheet_vectors.proofs.each.Statement.{statement}
 use Rattle.sheet_vectors.proofs.each.Tie as tie
 
-abbrev invariant-loop : tie.invariant-loop
-invariant-loop text start₀ start = Unit
+abbrev invariant-loop-start : tie.invariant-loop-start
+invariant-loop-start text start₀ start = Unit
 
-abbrev decreases-loop : tie.decreases-loop
-decreases-loop text start₀ start = length text - start
+abbrev decreases-loop-start : tie.decreases-loop-start
+decreases-loop-start text start₀ start = length text - start
 
 pub each_spec : {M : Type 1} → statement M
 each_spec =
     tie.close
     (tie.spec
-    invariant-loop
-    decreases-loop
+    invariant-loop-start
+    decreases-loop-start
     -- loop-holds
     (λ c. search rules)
     -- end-of-requires

@@ -9,18 +9,18 @@ use borrow.Author.Rules.{rules}
 use Rattle.sheet_vectors.proofs.escapes.put.Statement.{statement}
 use Rattle.sheet_vectors.proofs.escapes.put.Tie as tie
 
-abbrev invariant-loop : tie.invariant-loop
-invariant-loop bytes₀ at byte times end₀ left₀ bytes end left = (length bytes ≡ length bytes₀) × (end ≤ length bytes₀)
+abbrev invariant-loop-left : tie.invariant-loop-left
+invariant-loop-left bytes₀ at byte times end₀ left₀ bytes end left = (length bytes ≡ length bytes₀) × (end ≤ length bytes₀)
 
-abbrev decreases-loop : tie.decreases-loop
-decreases-loop bytes₀ at byte times end₀ left₀ bytes end left = left
+abbrev decreases-loop-left : tie.decreases-loop-left
+decreases-loop-left bytes₀ at byte times end₀ left₀ bytes end left = left
 
 pub put_spec : {M : Type 1} → statement M
 put_spec =
     tie.close
     (tie.spec
-    invariant-loop
-    decreases-loop
+    invariant-loop-left
+    decreases-loop-left
     -- loop-holds
     (λ c. search rules)
     -- same-length

@@ -9,18 +9,18 @@ use borrow.Author.Rules.{rules}
 use Rattle.sheet_vectors.proofs.escapes.read.Statement.{statement}
 use Rattle.sheet_vectors.proofs.escapes.read.Tie as tie
 
-abbrev invariant-loop : tie.invariant-loop
-invariant-loop text bytes₀ count₀ i₀ bytes count i = (length bytes ≡ length bytes₀) × (count ≤ length bytes₀) × (i ≤ length text)
+abbrev invariant-loop-i : tie.invariant-loop-i
+invariant-loop-i text bytes₀ count₀ i₀ bytes count i = (length bytes ≡ length bytes₀) × (count ≤ length bytes₀) × (i ≤ length text)
 
-abbrev decreases-loop : tie.decreases-loop
-decreases-loop text bytes₀ count₀ i₀ bytes count i = length text - i
+abbrev decreases-loop-i : tie.decreases-loop-i
+decreases-loop-i text bytes₀ count₀ i₀ bytes count i = length text - i
 
 pub read_spec : {M : Type 1} → statement M
 read_spec =
     tie.close
     (tie.spec
-    invariant-loop
-    decreases-loop
+    invariant-loop-i
+    decreases-loop-i
     -- loop-holds
     (λ c. search rules)
     -- sub-first

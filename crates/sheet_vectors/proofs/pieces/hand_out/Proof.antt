@@ -4,18 +4,18 @@ use borrow.Author.Rules.{rules}
 use Rattle.sheet_vectors.proofs.pieces.hand_out.Statement.{statement}
 use Rattle.sheet_vectors.proofs.pieces.hand_out.Tie as tie
 
-abbrev invariant-loop : tie.invariant-loop
-invariant-loop room left₀ turns₀ message left turns = Unit
+abbrev invariant-loop-turns : tie.invariant-loop-turns
+invariant-loop-turns room left₀ turns₀ left turns = Unit
 
-abbrev decreases-loop : tie.decreases-loop
-decreases-loop room left₀ turns₀ message left turns = turns
+abbrev decreases-loop-turns : tie.decreases-loop-turns
+decreases-loop-turns room left₀ turns₀ left turns = turns
 
 pub hand_out_spec : {M : Type 1} → statement M
 hand_out_spec =
     tie.close
     (tie.spec
-    invariant-loop
-    decreases-loop
+    invariant-loop-turns
+    decreases-loop-turns
     -- loop-holds
     (λ c. search rules)
     -- piece-requires
@@ -29,8 +29,6 @@ hand_out_spec =
     -- loop-less
     (λ c. search rules)
     -- loop-again
-    (λ c. search rules)
-    -- slice-aggregate-wrong
     (λ c. search rules)
     -- wrong-requires
     (λ c κs. search rules)

@@ -6,18 +6,18 @@ use borrow.Author.Rules.{rules}
 use Rattle.sheet_vectors.proofs.pieces.untouched.Statement.{statement}
 use Rattle.sheet_vectors.proofs.pieces.untouched.Tie as tie
 
-abbrev invariant-loop : tie.invariant-loop
-invariant-loop buffer from i₀ i = Unit
+abbrev invariant-loop-i : tie.invariant-loop-i
+invariant-loop-i buffer from i₀ i = Unit
 
-abbrev decreases-loop : tie.decreases-loop
-decreases-loop buffer from i₀ i = length buffer - i
+abbrev decreases-loop-i : tie.decreases-loop-i
+decreases-loop-i buffer from i₀ i = length buffer - i
 
 pub untouched_spec : {M : Type 1} → statement M
 untouched_spec =
     tie.close
     (tie.spec
-    invariant-loop
-    decreases-loop
+    invariant-loop-i
+    decreases-loop-i
     -- loop-holds
     (λ c. search rules)
     -- shared-slice-read-if1

@@ -7,18 +7,18 @@ use borrow.Author.Rules.{rules}
 use Rattle.sheet_vectors.proofs.state.spell.Statement.{statement}
 use Rattle.sheet_vectors.proofs.state.spell.Tie as tie
 
-abbrev invariant-loop : tie.invariant-loop
-invariant-loop places₀ i₀ places i = length places ≡ length places₀
+abbrev invariant-loop-i : tie.invariant-loop-i
+invariant-loop-i places₀ i₀ places i = length places ≡ length places₀
 
-abbrev decreases-loop : tie.decreases-loop
-decreases-loop places₀ i₀ places i = length places₀ - i
+abbrev decreases-loop-i : tie.decreases-loop-i
+decreases-loop-i places₀ i₀ places i = length places₀ - i
 
 pub spell_spec : {M : Type 1} → statement M
 spell_spec =
     tie.close
     (tie.spec
-    invariant-loop
-    decreases-loop
+    invariant-loop-i
+    decreases-loop-i
     -- loop-holds
     (λ c. search rules)
     -- slice-read-letter
