@@ -229,7 +229,7 @@ module _ (b : ℕ) (l r : Tree) where
     stepped_none none =
         let whole : b + size (node l r) ≡ root = omega (arith, node_size l r) in
         let low : All (λ y. y < suc root) (permutation_from b (node l r)) =
-            subst (λ (k : ℕ). All (λ y. y < suc k) (permutation_from b (node l r))) whole (entries_below b (node l r)) in
+        subst (λ (k : ℕ). All (λ y. y < suc k) (permutation_from b (node l r))) whole (entries_below b (node l r)) in
         inr ((next_none l r hr hl none).0, suffix_none root (left ++ right) parts_none (above_absent (suc root) (left ++ right) low.1))
 
 stepped_node : (b : ℕ) (l r : Tree) → Stepped b l → Stepped (suc (b + size l)) r → Stepped b (node l r)

@@ -12,7 +12,7 @@ use mathlib.Core.Path.{◌≡◌, refl, sym, ap, ap₂, ◌∙◌, subst, subst�
 use mathlib.Core.Logic.{◌↔◌}
 use mathlib.Core.List.{List, [], ◌∷◌, ◌++◌}
 use Prim.Native.Nat.{ℕ, zero, suc, ◌+◌, ◌≤◌, ◌<◌}
-use native.Mathlib.Nat.{lt_irrefl, lt_trans, lt-suc_self, lt_of_lt_of_le, lt_of_le_of_lt, le_of_eq}
+use native.Mathlib.Nat.{lt_trans, lt-suc_self, lt_of_lt_of_le, lt_of_le_of_lt, le_of_eq}
 use native.Mathlib.Omega.{arith}
 use lib.ListN.{length, get_or, take, drop}
 use lib.Seq.{split_at}

@@ -49,8 +49,7 @@ field_spec =
     (λ c.
     let low = c.requires in
     let at = c.digits_end-behind.ensures in
-    let some = c.if-behind-text.false in
-    (
+    let some = c.if-behind-text.false in (
       field_reads _ _ _ low at some _ _ _ c.in_form.ensures c.if-not-in_form.false-raw c.if-text-behind.false c.number.ensures.0,
       (
         λ y. field_value _ _ _ low at _ (c.number.ensures.1.0 y),
