@@ -1,7 +1,8 @@
 /* Lists the shapes of size 4 in the local order: number, pattern, permutation and change of each, and the figure at the end. Built and run
    from the repository's root by
 
-       rt staticlib exports && cc -O2 -Iinclude examples/list.c target/staticlib/libexports.a -o target/list && target/list */
+       (cd crates/exports && rt lib) && mkdir -p target
+       cc -O2 -Iinclude examples/list.c crates/exports/out/libexports.a -o target/list && target/list */
 #include <inttypes.h>
 #include <stdio.h>
 
