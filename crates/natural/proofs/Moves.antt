@@ -25,7 +25,7 @@ use Rattle.natural.proofs.Parts.{Rooted, cut, left_tree, right_tree, tree_node, 
 use Rattle.natural.proofs.Trees.{next_size, next_kept, next_right, next_left, next_root, next_none}
 use Rattle.natural.proofs.Trees.{previous_size, previous_kept, previous_right, previous_left, previous_root, previous_none}
 use Rattle.natural.proofs.Ends.{first_size, last_size}
-use Rattle.natural.proofs.Nodes.{left_of_lem, right_of, put_left, put_right, left_same, right_same, node_put, root_put}
+use Rattle.natural.proofs.Nodes.{left_of, right_of, put_left, put_right, left_same, right_same, node_put, root_put}
 
 -- ---- what the two steps have in common
 
@@ -85,7 +85,7 @@ parts_moved {b} {p} {q} h l right same as_many hu hv =
     (node_put b (cut b p) (get_or p 0 0) (λ _. l) right (omega (arith, label h)) (omega (arith, label h)) q _ _ (omega (arith, root h)) front hu hv)
 
 module _ {has : Tree → Bool} {step : Tree → Tree} {end : ℕ → Tree} (s : Steps has step end) where
-  pub parts_put : (b x : ℕ) (p u v : List ℕ) → Root b x p → u ≡ permutation_from b (end (length (left_of_lem (x - b) (set p 0 x))))
+  pub parts_put : (b x : ℕ) (p u v : List ℕ) → Root b x p → u ≡ permutation_from b (end (length (left_of (x - b) (set p 0 x))))
       → v ≡ permutation_from x (end (length (right_of (x - b) (put_left (x - b) (set p 0 x) u))))
       → put_right (x - b) (put_left (x - b) (set p 0 x) u) v ≡ permutation_from b (node (end (x - b - 1)) (end (length p - (x - b))))
   parts_put b x p u v h hu hv =
@@ -121,11 +121,11 @@ module _ {has : Tree → Bool} {step : Tree → Tree} {end : ℕ → Tree} (s : 
           }
 
     module _ {q : List ℕ} (m : RightStays has b p q) where
-      pub left_still : Part b (left_of_lem (cut b p) q)
+      pub left_still : Part b (left_of (cut b p) q)
       left_still = rw m.same (left_part h)
 
-      module _ {u : List ℕ} {r : Bool} (e : Moves has step b (left_of_lem (cut b p) q) r u) where
-        e_left : Moves has step b (left_of_lem (cut b p) p) r u
+      module _ {u : List ℕ} {r : Bool} (e : Moves has step b (left_of (cut b p) q) r u) where
+        e_left : Moves has step b (left_of (cut b p) p) r u
         e_left = rw m.same at e
 
         pub left_stays : r ≡ false → BothStay has b p (put_left (cut b p) q u)

@@ -1,5 +1,5 @@
 -- A root and its two parts, as they are written on a slice: the root's label in front, then the left part, and from place e on the right part.
---     left_of_lem e p, right_of e p           what stands in the places of the left and of the right part
+--     left_of e p, right_of e p      what stands in the places of the left and of the right part
 --     put_left e p u, put_right e p u     p with u in the place of it
 --     left_same, right_same             put back as it was, it leaves p
 --     left_long, right_long             how many entries it has
@@ -18,8 +18,8 @@ use borrow.Rule.Slice.PartMut.{mid_of, put_mid, mid_len, same_len_mid, Post-is, 
 use Rattle.shape.specs.Tree.{Tree, node, size, permutation_from}
 use Rattle.shape.proofs.Permutations.{length_permutation}
 
-abbrev pub left_of_lem : ℕ → List ℕ → List ℕ
-left_of_lem e p = mid_of 1 (e - 1) p
+abbrev pub left_of : ℕ → List ℕ → List ℕ
+left_of e p = mid_of 1 (e - 1) p
 
 abbrev pub right_of : ℕ → List ℕ → List ℕ
 right_of e p = mid_of e (length p - e) p
@@ -31,13 +31,13 @@ abbrev pub put_right : ℕ → List ℕ → List ℕ → List ℕ
 put_right e p u = put_mid e (length p - e) p u
 
 module _ (e : ℕ) (p : List ℕ) where
-  pub left_same : put_left e p (left_of_lem e p) ≡ p
+  pub left_same : put_left e p (left_of e p) ≡ p
   left_same = put_same 1 (e - 1) p
 
   pub right_same : put_right e p (right_of e p) ≡ p
   right_same = put_same e (length p - e) p
 
-  pub left_long : e ≤ length p → length (left_of_lem e p) ≡ e - 1
+  pub left_long : e ≤ length p → length (left_of e p) ≡ e - 1
   left_long h = mid_len 1 e p h
 
   pub right_long : length (right_of e p) ≡ length p - e
@@ -50,7 +50,7 @@ module _ (b e x : ℕ) (l r : Tree) (nodes : suc (size l) ≡ e) (label : b + e 
   unfolding permutation_from
   node_is = let root : suc (b + size l) ≡ x = omega arith in rw root refl
 
-  pub node_left : left_of_lem e (permutation_from b (node l r)) ≡ permutation_from b l
+  pub node_left : left_of e (permutation_from b (node l r)) ≡ permutation_from b l
   node_left = rw node_is (take_at (permutation_from b l) _ (e - 1) (omega (arith, length_permutation b l)))
 
   pub node_right : right_of e (permutation_from b (node l r)) ≡ permutation_from x r
@@ -69,7 +69,7 @@ both_put e (y ∷ p) u v long within some =
     rw (take_at (y ∷ u) (drop (e - 1) p) e long, Post-is e (length q) q within, drop-length q, append-nil v) refl
 
 module _ (b e x : ℕ) (left right : ℕ → Tree) (nodes : suc (size (left (e - 1))) ≡ e) (label : b + e ≡ x) where
-  pub node_put : (p u v : List ℕ) → e ≤ length p → get_or p 0 0 ≡ x → u ≡ permutation_from b (left (length (left_of_lem e p)))
+  pub node_put : (p u v : List ℕ) → e ≤ length p → get_or p 0 0 ≡ x → u ≡ permutation_from b (left (length (left_of e p)))
       → v ≡ permutation_from x (right (length (right_of e (put_left e p u))))
       → put_right e (put_left e p u) v ≡ permutation_from b (node (left (e - 1)) (right (length p - e)))
   node_put p u v within root hu hv =
@@ -80,7 +80,7 @@ module _ (b e x : ℕ) (left right : ℕ → Tree) (nodes : suc (size (left (e -
       both_put e p u v long (omega (arith, kept)) (omega arith)
       ∙ rw (node_is b e x _ _ nodes label, root, written, hv, right_long e (put_left e p u), kept) refl
 
-  pub root_put : (p u v : List ℕ) → e ≤ length p → u ≡ permutation_from b (left (length (left_of_lem e (set p 0 x))))
+  pub root_put : (p u v : List ℕ) → e ≤ length p → u ≡ permutation_from b (left (length (left_of e (set p 0 x))))
       → v ≡ permutation_from x (right (length (right_of e (put_left e (set p 0 x) u))))
       → put_right e (put_left e (set p 0 x) u) v ≡ permutation_from b (node (left (e - 1)) (right (length p - e)))
   root_put p u v within hu hv =

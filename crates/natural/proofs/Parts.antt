@@ -19,7 +19,7 @@ use Rattle.shape.specs.Tree.{Tree, empty, node, size, permutation, permutation_f
 use Rattle.shape.specs.Form.{permutation_tree, TreePermutation}
 use Rattle.shape.proofs.Permutations.{length_permutation, part_tree, permutation_of}
 use Rattle.natural.specs.Parts.{Part, Root}
-use Rattle.natural.proofs.Nodes.{left_of_lem, right_of, left_long, right_long, node_left, node_right}
+use Rattle.natural.proofs.Nodes.{left_of, right_of, left_long, right_long, node_left, node_right}
 
 pub part_size : (b : ℕ) (p : List ℕ) → Part b p → size (permutation_tree p) ≡ length p
 part_size b p h = sym (length_permutation b (permutation_tree p)) ∙ ap length h.written
@@ -38,7 +38,7 @@ abbrev pub cut : ℕ → List ℕ → ℕ
 cut b p = get_or p 0 0 - b
 
 abbrev pub left_tree : ℕ → List ℕ → Tree
-left_tree b p = permutation_tree (left_of_lem (cut b p) p)
+left_tree b p = permutation_tree (left_of (cut b p) p)
 
 abbrev pub right_tree : ℕ → List ℕ → Tree
 right_tree b p = permutation_tree (right_of (cut b p) p)
@@ -52,8 +52,8 @@ module _ {b : ℕ} {p : List ℕ} (h : Rooted b p) where
     unfolding permutation_from
     label_of = ap (λ q. get_or q 0 0) (sym whole)
 
-    left_of : left_of_lem (cut b p) p ≡ permutation_from b l
-    left_of = ap (left_of_lem (cut b p)) whole ∙ node_left b (cut b p) (get_or p 0 0) l r (omega (arith, label_of)) (omega (arith, label_of))
+    left_of_lem : left_of (cut b p) p ≡ permutation_from b l
+    left_of_lem = ap (left_of (cut b p)) whole ∙ node_left b (cut b p) (get_or p 0 0) l r (omega (arith, label_of)) (omega (arith, label_of))
 
     right_of_lem : right_of (cut b p) p ≡ permutation_from (get_or p 0 0) r
     right_of_lem = ap (right_of (cut b p)) whole ∙ node_right b (cut b p) (get_or p 0 0) l r (omega (arith, label_of)) (omega (arith, label_of))
@@ -61,7 +61,7 @@ module _ {b : ℕ} {p : List ℕ} (h : Rooted b p) where
   tree_is : (t : Tree) → permutation_tree p ≡ t → permutation_tree p ≡ node (left_tree b p) (right_tree b p)
   unfolding permutation_from
   tree_is empty e = absurd (h.some (ap length (sym h.part.written ∙ ap (permutation_from b) e)))
-  tree_is (node l r) e = rw (left_of l r e, right_of_lem l r e, part_tree b l, part_tree (get_or p 0 0) r) e
+  tree_is (node l r) e = rw (left_of_lem l r e, right_of_lem l r e, part_tree b l, part_tree (get_or p 0 0) r) e
 
   pub tree_node : permutation_tree p ≡ node (left_tree b p) (right_tree b p)
   tree_node = tree_is (permutation_tree p) refl
@@ -76,8 +76,8 @@ module _ {b : ℕ} {p : List ℕ} (h : Rooted b p) where
   pub root : Root b (get_or p 0 0) p
   root = record { above = omega (arith, label); within = omega (arith, label, sizes); small = h.part.small }
 
-  pub left_part : Part b (left_of_lem (cut b p) p)
-  left_part = record { written = sym (left_of _ _ tree_node); small = omega (arith, left_long (cut b p) p (omega (arith, root)), root) }
+  pub left_part : Part b (left_of (cut b p) p)
+  left_part = record { written = sym (left_of_lem _ _ tree_node); small = omega (arith, left_long (cut b p) p (omega (arith, root)), root) }
 
   pub right_part : Part (get_or p 0 0) (right_of (cut b p) p)
   right_part = record { written = sym (right_of_lem _ _ tree_node); small = omega (arith, right_long (cut b p) p, root) }

@@ -3,7 +3,7 @@
 --     no_places, padded     all of them 0; those of a pattern, and 0 behind it
 --     places_at             those of the state whose next shape has the number k
 --     same                 whether two lists are the same
---     inRange              whether a state may stand at k on its way to the end
+--     in_range             whether a state may stand at k on its way to the end
 --     belong               whether the parts of a state belong together; the figure is taken on trust
 -- Assumes nothing.
 use Rattle.std.specs.Prelude.{Bool, true, false, cond, ◌&&◌, List, [], ◌∷◌, ◌++◌, ℕ, ◌-◌, leb, ltb, eqb, length, replicate}
