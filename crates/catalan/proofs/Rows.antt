@@ -3,12 +3,12 @@
 --     row_at, row_fits         entry a is the ways with a ones left; for b ≤ 35 zeros it fits 64 bits
 --     row_first, row_past      entry 0 is 1, and past b the entries are 0
 --     rows_step                an entry of the next row is the one of this row and the next row's entry before it
---     grow-..                  upward from the row of z to the row of z + 1: entry a gains the entry before it
---     shrink-..                downward from the row of z to the row of z - 1: entry a loses the entry before it
---     clear-..                 upward, the row of no zeros over any list of 36 entries
+--     grow_..                  upward from the row of z to the row of z + 1: entry a gains the entry before it
+--     shrink_..                downward from the row of z to the row of z - 1: entry a loses the entry before it
+--     clear_..                 upward, the row of no zeros over any list of 36 entries
 --     row_start                the row of no zeros is 1 and then zeros
---     fill_end_lem                 the last of the rows that were grown is the one asked for
--- Of a loop: -begin is what holds at its start, -turn what one turn makes, -end what it leaves; -fits and -holds, that a turn's sum or
+--     fill_end_lem             the last of the rows that were grown is the one asked for
+-- Of a loop: _begin is what holds at its start, _turn what one turn makes, _end what it leaves; _fits and _holds, that a turn's sum or
 -- difference does not wrap.
 -- Assumes nothing.
 use mathlib.Core.Path.{◌≡◌, refl, sym, ap, ◌∙◌}

@@ -2,7 +2,7 @@
 --     length_tabulate    a table of n entries has n entries
 --     tabulate_at        the entry at i is f i
 --     table_long         the table has 37 entries
---     table_at_lem           its entry at k is C(k)
+--     table_at_lem       its entry at k is C(k)
 --     table_rule         (k+2)·C(k+1) = (4k+2)·C(k) holds between neighbours of the table
 --     table_within       within the table, `table_at` is C
 --     table_entry        within the table, `table_at` is the table's entry

@@ -1,6 +1,6 @@
 -- What the bench counts.
 --     C k             the Catalan number
---     largest_size     the most nodes that a shape on the bench has
+--     largest_size    the most nodes that a shape on the bench has
 --     binom n k       the binomial coefficient
 --     ways a b        the ways to finish a pattern with a ones and b zeros left to place
 --     words m a       the words that write m trees, a nodes in all, one tree after the other

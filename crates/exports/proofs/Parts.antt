@@ -1,6 +1,6 @@
 -- Parts of lent slices, in the words in which the code finds them: p and q are what the slices hold, o and o' what their checks answered, b
 -- whether p stands before q, and r the part that is told.
---     head_told_lem                          the head
+--     head_told_lem                      the head
 --     first_refused, second_refused      the later of two: one is refused, and the part is empty
 --     second_told, first_told            or the one that is later
 --     parts                              these, for `search`

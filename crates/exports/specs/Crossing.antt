@@ -1,10 +1,10 @@
 -- What crosses to C, in the words of the calls' own definitions.
 --     replied                  a reply: the refusal's number and the value
---     from_start                the part of a slice from its first place on
---     head_told, later_told      the part that the head is, or the later of two: of which slice, from where, how many places
---     chosen, read_from         what a program reads that adds the offset to its own pointer: p and q are what its two slices hold
---     start_told, step_told      a start and a step of a run: each has its reply's numbers in the place of an enum
---     fill_told                 a sheet's next piece, likewise
+--     from_start               the part of a slice from its first place on
+--     head_told, later_told    the part that the head is, or the later of two: of which slice, from where, how many places
+--     chosen, read_from        what a program reads that adds the offset to its own pointer: p and q are what its two slices hold
+--     start_told, step_told    a start and a step of a run: each has its reply's numbers in the place of an enum
+--     fill_told                a sheet's next piece, likewise
 -- Assumes nothing.
 use Rattle.std.specs.Prelude.{List, ℕ, zero, suc, length, take, drop}
 use Rattle.shape.specs.Reply.{Reply}

@@ -5,7 +5,7 @@
 --     piece_room, piece_within, piece_handed        what handing out a piece asks of the buffer and of the sheet
 --     piece_over, piece_no, piece_first, piece_last, piece_shapes      which piece is next, and the sheet that it leaves
 --     piece_answers                                 all that handing it out answers
---     refused-.., fill_asked, fill_answers          what filling a buffer answers, refused or not
+--     refused_.., fill_asked, fill_answers          what filling a buffer answers, refused or not
 --     answers, pieces, fills                        these laws, for `search`
 -- Assumes nothing.
 use mathlib.Core.Path.{◌≡◌, refl, sym, ap, ◌∙◌}

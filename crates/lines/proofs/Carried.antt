@@ -1,8 +1,8 @@
 -- What the walk along a run's shapes is given and what is made of what it leaves, each law in the words in which the code meets it. The run s
 -- hands out a shape.
 --     front_held         what was written over the first numbers of a list
---     run-..             its size, its numbers, its pattern, its permutation and its depths
---     listed-..          the bytes, the run and the buffer after the walk, which went to the shape numbered k with figure f
+--     run_..             its size, its numbers, its pattern, its permutation and its depths
+--     listed_..          the bytes, the run and the buffer after the walk, which went to the shape numbered k with figure f
 --     carries            these laws, for `search`
 -- Assumes nothing.
 use mathlib.Core.Path.{◌≡◌, sym, ap, ◌∙◌}

@@ -1,8 +1,8 @@
 -- The tests of a sheet that is handed in, each law in the words in which the code meets it: r is what a callee answered.
---     began-.., over-..      whether the run has begun, and whether it is over
---     goes-..                whether it can go on, from what a step of it answers
---     kept-..                whether the parts of a sheet belong together
---     check-..               what is asked before a piece is handed out
+--     began_.., over_..      whether the run has begun, and whether it is over
+--     goes_..                whether it can go on, from what a step of it answers
+--     kept_..                whether the parts of a sheet belong together
+--     check_..               what is asked before a piece is handed out
 --     tests                  these laws, for `search`
 -- Assumes nothing.
 use mathlib.Core.Path.{◌≡◌, sym, ap, ◌∙◌}

@@ -3,7 +3,7 @@
 --     Holds                     the shape's two forms, its depths, the text of its number and its change are held
 --     Put                       the lines of the shapes before k stand in the buffer, `at` bytes, and so many more are to come
 --     first_formed, first_width, holds_first      what is held at the start, from what `text::put_number` and `local::change` answer
---     holds-..                  what a line asks of it
+--     holds_..                  what a line asks of it
 --     holds_next                what is held after a step, from what `walk::next` and `text::count_up` answer
 --     put_none                  no line at the start
 --     put_full, put_last, put_stopped     no more lines: there is no room, the run is over, or the figure would pass 64 bits

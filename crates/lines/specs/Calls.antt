@@ -1,14 +1,14 @@
 -- What the sheet library answers, for every input and every sheet s that is handed in, well formed or not.
---     refusing, begun_sheet        a sheet that only tells a refusal; one whose run starts
---     open_sheet                   the sheet that an input opens
+--     refusing, begun_sheet       a sheet that only tells a refusal; one whose run starts
+--     open_sheet                  the sheet that an input opens
 --     walks                       whether a run can step or is done
 --     began, over, keeps          whether the parts of a sheet belong together
---     fill_check                   what is asked before a piece is handed out, of a buffer of so many bytes
+--     fill_check                  what is asked before a piece is handed out, of a buffer of so many bytes
 --     standing                    the run that stands at a number, with a figure
 --     fitting                     how many shapes' lines a piece takes: one is put where the longest would fit
---     listed, listed_lines         that, for a run with a buffer of so many bytes, and these lines
---     piece_text, piece_sheet       the next piece, and the sheet after it (sheet_with)
---     fill_reply, fill_sheet, fill_end       what filling a buffer answers, and what it leaves in the buffer
+--     listed, listed_lines        that, for a run with a buffer of so many bytes, and these lines
+--     piece_text, piece_sheet     the next piece, and the sheet after it (sheet_with)
+--     fill_reply, fill_sheet, fill_end    what filling a buffer answers, and what it leaves in the buffer
 -- Assumes nothing.
 use Rattle.std.specs.Prelude.{Bool, true, false, cond, ◌&&◌, List, [], ℕ, zero, suc, ◌+◌, ◌-◌, leb, eqb, length}
 use Rattle.shape.specs.Reply.{Reply, refusal_number}

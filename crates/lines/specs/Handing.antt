@@ -1,7 +1,7 @@
 -- A sheet that is handed out into one buffer after another. A room is how many bytes a buffer has.
---     pieces_from rooms s      the bytes handed out, joined
---     sheet_after rooms s      the sheet after them
---     lines_left s             how many lines are still to come
+--     pieces_from rooms s     the bytes handed out, joined
+--     sheet_after rooms s     the sheet after them
+--     lines_left s            how many lines are still to come
 -- Assumes nothing.
 use Rattle.std.specs.Prelude.{cond, List, [], ◌∷◌, ◌++◌, ℕ, ◌+◌, ◌-◌, eqb}
 use Rattle.shape.specs.Check.{unless_refused}

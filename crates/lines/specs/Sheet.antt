@@ -1,8 +1,8 @@
 -- The whole sheet: 01, Sheet program.
---     handed_line      the line of a pattern that a run hands out with its change
---     open_check       what an input is refused for: 11 first, then 1, then 8
---     sheet_for        the sheet of a run
---     sheet_of         the sheet that an input gives: that of its run, or only the line that tells the refusal
+--     handed_line     the line of a pattern that a run hands out with its change
+--     open_check      what an input is refused for: 11 first, then 1, then 8
+--     sheet_for       the sheet of a run
+--     sheet_of        the sheet that an input gives: that of its run, or only the line that tells the refusal
 -- Assumes nothing.
 use Rattle.std.specs.Prelude.{List, ◌++◌, ℕ, ◌-◌}
 use Rattle.shape.specs.Tree.{permutation}

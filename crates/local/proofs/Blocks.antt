@@ -1,5 +1,5 @@
 -- What the loops over a pattern's places find.
---     block-.., pairs-.., seconds-..      the loops of block_start, pairs_start and put_pairs: -turn is what one turn makes, -stop and -end
+--     block_.., pairs_.., seconds_..      the loops of block_start, pairs_start and put_pairs: _turn is what one turn makes, _stop and _end
 --                            what a loop answers or leaves
 --     Block, block_found     a block of one digit, as block_start finds it
 --     Paired, paired_found   the last places 1, 0, 1, 0, .. of a pattern, as pairs_start finds them

@@ -1,11 +1,11 @@
 -- Laws of the loops that read a pattern from its first place on: `depth`, `head_length`, `before`.
---     place-..           what a place does to the excess of ones over zeros, and that no step on the way there wraps
+--     place_..           what a place does to the excess of ones over zeros, and that no step on the way there wraps
 --     Climbed            the excess and the largest excess so far
---     depth-..           the walk by two places, which raises the largest or not
+--     depth_..           the walk by two places, which raises the largest or not
 --     pair_of_places     what it asks on the way there, for `search`
---     head-..            the walk has not left the head as long as the excess is above 0
---     before-..          the patterns are the same so far, and the first difference decides
--- Of a loop: -begin is what holds at its start, -turn (of depth, -rises and -stays) what one turn makes, -end what it leaves.
+--     head_..            the walk has not left the head as long as the excess is above 0
+--     before_..          the patterns are the same so far, and the first difference decides
+-- Of a loop: _begin is what holds at its start, _turn (of depth, _rises and _stays) what one turn makes, _end what it leaves.
 -- Assumes nothing.
 use Rattle.std.proofs.Common.{◌≡◌, ℕ, suc, ◌+◌, ◌-◌, ◌*◌, ◌^◌, ◌<◌, ◌≤◌, max, true, false, ltb, List, length, get_or, take, sym, ap, ◌∙◌, subst, inl, inr, le_of_eq, le_of_lt, eq-or-lt_of_le, add-one, arith, take_all, take-suc, w64, Fits, le-ltb, lt-ltb}
 use Rattle.shape.specs.Tree.{head, pattern}

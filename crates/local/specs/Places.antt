@@ -1,11 +1,11 @@
 -- What the loops over a pattern's places find and leave.
---     block_start x p i       where the block of x that ends before place i of p begins: 001, section 3
---     pairs_start p i         where the places 1, 0, 1, 0, .. that end before place i begin
---     every_second x p        p with x at its first place, its third, and so on
---     next_change, next_pattern             one step on, with its change; 0, and the pattern as it is, for the last
---     previous_change, previous_pattern     one step back, with the change that it takes back; 0, and the pattern as it is, for the first
---     end_numbered a b k p    p with its last places by their number: a word of a ones and b zeros
---     moved_pattern           a move by a distance; the pattern as it is where that leads past an end
+--     block_start x p i      where the block of x that ends before place i of p begins: 001, section 3
+--     pairs_start p i        where the places 1, 0, 1, 0, .. that end before place i begin
+--     every_second x p       p with x at its first place, its third, and so on
+--     next_change, next_pattern           one step on, with its change; 0, and the pattern as it is, for the last
+--     previous_change, previous_pattern   one step back, with the change that it takes back; 0, and the pattern as it is, for the first
+--     end_numbered a b k p   p with its last places by their number: a word of a ones and b zeros
+--     moved_pattern          a move by a distance; the pattern as it is where that leads past an end
 -- Assumes nothing.
 use Rattle.std.specs.Prelude.{ℕ, zero, suc, ◌+◌, ◌-◌, cond, List, [], ◌∷◌, ◌++◌, length, take, ℤ, ◌==◌, nat_lt, slice_index}
 use Rattle.catalan.specs.Count.{C}

@@ -1,7 +1,7 @@
 -- Laws of the loop that writes the tree permutation of a pattern, `permutation_of`: which labels the zeros read so far have been given. The
 -- places read complete trees one after the other (`forest`), and the 0 that closes each tree has the label after the tree's own.
 --     closing b ts         the labels of the zeros that close the trees ts, where the labels begin after b
---     entries_from b ts     the entries of the trees, one tree after the other
+--     entries_from b ts    the entries of the trees, one tree after the other
 --     closing_empty, entries_empty, joined_labels      what a 0 and a 1 before the places read make of both
 --     stacked q w r        the first w entries of q, the last of them first, and then r
 --     Labelling n p q w k i      the pattern p is read from place i on: its trees' entries stand in q from k on, and the labels of their zeros

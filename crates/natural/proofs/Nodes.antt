@@ -1,11 +1,11 @@
 -- A root and its two parts, as they are written on a slice: the root's label in front, then the left part, and from place e on the right part.
---     left_of e p, right_of e p           what stands in the places of the left and of the right part
---     put_left e p u, put_right e p u     p with u in the place of it
---     left_same, right_same               put back as it was, it leaves p
---     left_long, right_long               how many entries it has
---     node_left, node_right               in the permutation of a node, those of its parts stand there
---     node_put                            and with those put there, one after the other, behind the root's label, it is the permutation of the node
---     root_put                            so it is where the root's label is written first
+--     left_of e p, right_of e p         what stands in the places of the left and of the right part
+--     put_left e p u, put_right e p u   p with u in the place of it
+--     left_same, right_same             put back as it was, it leaves p
+--     left_long, right_long             how many entries it has
+--     node_left, node_right             in the permutation of a node, those of its parts stand there
+--     node_put                          and with those put there, one after the other, behind the root's label, it is the permutation of the node
+--     root_put                          so it is where the root's label is written first
 -- Assumes nothing.
 use mathlib.Core.Path.{◌≡◌, refl, ap, ◌∙◌}
 use mathlib.Core.List.{List, [], ◌∷◌, ◌++◌, append-nil}

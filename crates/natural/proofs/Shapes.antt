@@ -1,8 +1,8 @@
 -- Laws of the loop that writes the tree permutation with a number, entry by entry. A part of c entries has a number k and the labels after b;
 -- its root is written at its front and leaves the rest to the left part, of l nodes, and to the right part, which waits at the entry where
 -- it begins: there stand its base among the entries, its count among the counts and its number among the numbers.
---     part_of b c k                      what is to be written for a part
---     rights_of table c l                how many right parts there are, by the table
+--     part_of b c k                     what is to be written for a part
+--     rights_of table c l               how many right parts there are, by the table
 --     Split table c k l rest            the tree has l nodes on the left, and `rest` is its number among the trees with as many there:
 --                                       how `rest` numbers the two parts
 --     split                             so it is once `left_nodes` has answered

@@ -1,7 +1,7 @@
 -- One step along the natural order, told of a tree's parts. Each law goes by numbers, since a tree is determined by its size and its number;
 -- the step on and the step back share the arithmetic.
 --     First m t, Last m t             t is the first, the last tree of m nodes
---     first_tree_lem                      the tree with the number 0 is the first
+--     first_tree_lem                  the tree with the number 0 is the first
 --     first_node, last_node           the parts of the first and of the last tree
 --     Step t s                        s is the tree after t
 --     numbered_next                   so s is what next_tree makes of t, and t what previous_tree makes of s

@@ -1,10 +1,10 @@
 -- What the work on a part of a tree permutation takes and leaves.
 --     Part b p                 p is the permutation of a tree with the labels after b
 --     Root b x p               x can be the label of its root
---     has_next, has_previous     there is a tree after, before, of the same size
---     next_tree, previous_tree   one step along the natural order; the tree as it is for the last, for the first
---     first_tree, last_tree      the first and the last tree of a size
---     first_parts, last_parts    a root, and under it the first, the last tree of each part's size
+--     has_next, has_previous   there is a tree after, before, of the same size
+--     next_tree, previous_tree  one step along the natural order; the tree as it is for the last, for the first
+--     first_tree, last_tree    the first and the last tree of a size
+--     first_parts, last_parts  a root, and under it the first, the last tree of each part's size
 -- Assumes nothing.
 use Rattle.std.specs.Prelude.{◌≡◌, Bool, cond, List, ℕ, ◌+◌, ◌-◌, ◌≤◌, ◌<◌, ltb, length}
 use Rattle.catalan.specs.Count.{C, largest_size}

@@ -1,6 +1,6 @@
 -- The working suffix of a tree permutation: what the step to the next one changes.
---     working_suffix p     the entries from the last one on whose next label stands behind it; none where there is no such entry
---     suffix_start p       the place at which they begin
+--     working_suffix p    the entries from the last one on whose next label stands behind it; none where there is no such entry
+--     suffix_start p      the place at which they begin
 --     Renewed p q         q is p with its working suffix made anew
 -- Assumes nothing.
 use Rattle.std.specs.Prelude.{◌≡◌, cond, List, [], ◌∷◌, ℕ, suc, ◌-◌, ◌<◌, eqb, length, get_or, take, drop}

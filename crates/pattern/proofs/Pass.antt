@@ -2,7 +2,7 @@
 --     Balanced p j ones        the first j places are zeros and `ones` ones, and up to none of them are there more zeros than ones
 --     Counted n p faults ones k     the pass has come to pair k of the places, and has counted the faults and the ones before it
 --     counted_none, counted_next    where it begins, and a pair more
---     place_fits_lem, places_fit, pair_fits, faults_fit, first_fits, ones_fit      its numbers fit their width
+--     place_fits_lem, places_fit, pair_fits, faults_fit, first_fits, ones_fit  its numbers fit their width
 --     counted_wrong, counted_right          at its end: there are faults, or none
 --     feasible_done, above_entry, infeasible_shape      what the pass, and the search for a place above 1, find is what is asked of the contents
 -- Assumes nothing.

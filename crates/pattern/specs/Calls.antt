@@ -1,8 +1,8 @@
 -- What the calls on patterns answer besides what a call over any numbering does, for every size n and every list p that the slice holds.
---     successor_change, predecessor_change       the change of a step, on and back
---     depth_reply                               the depth
---     head_part                                 what the head holds; it starts where the slice starts
---     later_check, later_part, later_of           what the later of two holds, and which of the two slices it is a part of
+--     successor_change, predecessor_change     the change of a step, on and back
+--     depth_reply                              the depth
+--     head_part                                what the head holds; it starts where the slice starts
+--     later_check, later_part, later_of        what the later of two holds, and which of the two slices it is a part of
 -- Assumes nothing.
 use Rattle.std.specs.Prelude.{cond, List, [], ℕ, ◌+◌, ltb}
 use Rattle.shape.specs.Tree.{head}

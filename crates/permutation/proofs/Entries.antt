@@ -1,6 +1,6 @@
 -- Laws of what is tested of an entry, and of the loop that looks for the first one that does not fit.
 --     refuted                                              a test that cannot pass fails
---     entry_zero, entry_large, entry_seen, entry_fits_lem      an entry outside 1..n or marked does not fit, and any other does
+--     entry_zero, entry_large, entry_seen, entry_fits_lem  an entry outside 1..n or marked does not fit, and any other does
 --     Fitting n p seen k                                   the search has come to entry k, and has marked those before it
 --     fitting_none, fitting_next, fitting_end              where it begins, an entry that fits, and no entry left
 --     unfit_zero, unfit_large, unfit_seen                  the three tests of the code: where one of them stops it, there is the answer

@@ -5,15 +5,15 @@
 --     bits_more, bits_low                        the last k bits do not depend on what stands before them
 --     bits_first, bits_split                     the first bit and the others; the first j bits and the other k
 --     bits_front, bits_back, bits_place          the same as parts of the list, and the bit at a place
---     value_through, value_after_lem, value_first    the bits of one list after those of another, a number, or a bit
+--     value_through, value_after_lem, value_first  the bits of one list after those of another, a number, or a bit
 --     value_next                                 one more bit at the end
 --     value_below, value_zeros, value_none       below 2 to the number of bits; 0 exactly where all bits are 0
 --     value_bits, value_low, bits_value          a number of k bits is read back, the last k bits of any number, and a list of bits likewise
 --     bits_part                                  the first k bits of a list are those of what they write
 --     length_bytes, bytes_below                  k bytes, each of them below 256
---     length_bits_of, bits_of_below                eight bits a byte, each of them 0 or 1
---     bits_of_drop                                the bits after those of the first k bytes
---     bits_of_from                                from byte k on: its own bits and those of the bytes after it
+--     length_bits_of, bits_of_below              eight bits a byte, each of them 0 or 1
+--     bits_of_drop                               the bits after those of the first k bytes
+--     bits_of_from                               from byte k on: its own bits and those of the bytes after it
 --     bytes_bits, bits_bytes                     bits as bytes and back, bytes as bits and back
 -- Assumes nothing.
 use mathlib.Core.Path.{◌≡◌, refl, sym, ap, ap₂, ◌∙◌, subst⁻¹}

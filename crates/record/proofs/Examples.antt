@@ -1,6 +1,6 @@
 -- Worked examples of records, computed from the definitions: 01, Packed record and Refusal numbers.
---     record-..                          size 1, 10 is the bytes 4, 128; size 3, 111000 is the bytes 12, 224; size 5 has a third byte
---     size-.., mark-.., places-.., fill-..     what stands in the bytes 12, 224, and in others with a mark or a fill that is not 0
+--     record_..                          size 1, 10 is the bytes 4, 128; size 3, 111000 is the bytes 12, 224; size 5 has a third byte
+--     size_.., mark_.., places_.., fill_..     what stands in the bytes 12, 224, and in others with a mark or a fill that is not 0
 --     write_done, write_short            the call that writes: a record in the place of what was there; a slice that is too short stays as lent
 --     read_said, read_done, read_kept    the call that reads: the size, the places; a refusal leaves the slice as lent
 --     read_tries                         what it answers to bytes with nothing, with one thing and with several things wrong

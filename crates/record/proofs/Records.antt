@@ -2,7 +2,7 @@
 -- and written, it is the same again. 01, Packed record.
 --     fill_whole                       the fill makes the bits of a record whole bytes
 --     record_long, record_bytes        a record has as many bytes as its size asks, each of them below 256
---     record_bits_lem                      its bits are what was to be written
+--     record_bits_lem                  its bits are what was to be written
 --     size_back, mark_back, places_back, fill_back      and each part is found in them
 --     record_laid                      so mark, length and fill are as they should be
 --     record_read                      and it is accepted

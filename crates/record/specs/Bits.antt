@@ -2,7 +2,7 @@
 --     bits k x         the last k bits of x
 --     value l          the number that the bits l write; value_after x l, where x is what the bits before them write
 --     bytes k l        k bytes of eight bits each, taken from the front of l
---     bits_of r         the bits of the bytes r, one byte after the other
+--     bits_of r        the bits of the bytes r, one byte after the other
 -- Assumes nothing.
 use Rattle.std.specs.Prelude.{List, [], ◌∷◌, ◌++◌, ℕ, zero, suc, ◌+◌, ◌*◌, ◌/◌, ◌%◌, take, drop}
 

@@ -1,9 +1,9 @@
 -- What the calls on records answer, and what they leave in a lent slice, for every size n, every pattern p, every record r and every list q
 -- in whose place something is written.
---     write_reply, write_end          the record of a pattern; its refusals are those of any call that reads a pattern and writes another slice
---     layout_check                   what is asked of a record before its places are looked at
---     places_check                   and of the places, and of the slice that they are to be put into
---     read_check, read_reply, read_end      the pattern of a record, and its size
+--     write_reply, write_end        the record of a pattern; its refusals are those of any call that reads a pattern and writes another slice
+--     layout_check                  what is asked of a record before its places are looked at
+--     places_check                  and of the places, and of the slice that they are to be put into
+--     read_check, read_reply, read_end   the pattern of a record, and its size
 -- Assumes nothing.
 use Rattle.std.specs.Prelude.{List, ℕ, ◌*◌, ltb, eqb, length, get_or}
 use Rattle.shape.specs.Form.{patterns, every, balance_fits}

@@ -1,8 +1,8 @@
 -- A packed record: 01, Packed record.
 --     fill n               the zeros that fill its last byte
---     record_bits n p       the bits of the record of the pattern p of size n
---     record_of n p         its bytes
---     size_in, mark_in, places_in, fill_in      what stands in the bytes r, part by part
+--     record_bits n p      the bits of the record of the pattern p of size n
+--     record_of n p        its bytes
+--     size_in, mark_in, places_in, fill_in  what stands in the bytes r, part by part
 -- Assumes nothing.
 use Rattle.std.specs.Prelude.{List, ◌++◌, ℕ, ◌+◌, ◌-◌, ◌*◌, take, drop, replicate}
 use Rattle.shape.specs.Check.{record_length}

@@ -6,7 +6,7 @@
 --     begun_made                            the state of a start
 --     state_refused, figure_refused         the two refusals of a step
 --     state_done                            the end
---     standing-..                           what a state that passes the tests holds: its size, its numbers and the pattern that comes next
+--     standing_..                           what a state that passes the tests holds: its size, its numbers and the pattern that comes next
 --     stays_answers, handed_answers         all that a step answers where it hands out nothing, and where it hands out a shape
 --     starts, steps                         the laws that the code of a start and of a step meets, for `search`
 -- Assumes nothing.

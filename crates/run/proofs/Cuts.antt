@@ -1,6 +1,6 @@
 -- A whole size cut into runs, wherever it is cut: together the runs hand out each shape of the size exactly once, and their figures add up
 -- to the same number.
---     run_list_lem, run_figure_lem     what one run hands out, and the figure that it ends with
+--     run_list_lem, run_figure_lem  what one run hands out, and the figure that it ends with
 --     stretches_join           the runs of a stretch that is cut hand out, one after the other, what one run of the stretch does
 --     stretches_figure         and their figures add up to its figure
 --     runs_join                the runs of a whole size hand out the whole list of the local order

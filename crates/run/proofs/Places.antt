@@ -3,10 +3,10 @@
 --     same_means, same_other           the test of two lists passes exactly where they are one list, and fails where they are not
 --     range_means                      the test of a state's numbers
 --     zeros_from                       zeros from a place on
---     places_at_next, places_at_end      before the end a state holds the pattern that comes next, and 0 behind it; at the end 0 only
+--     places_at_next, places_at_end    before the end a state holds the pattern that comes next, and 0 behind it; at the end 0 only
 --     take_padded, drop_padded         of a state's places the first 2n are the pattern, and the others 0
 --     padded_means, padded_written     which is all that makes them, and how they come out when the pattern is written over the first 2n
---     length_padded, length_places_at   a state has 70 places, whatever the size and the number
+--     length_padded, length_places_at  a state has 70 places, whatever the size and the number
 -- Assumes nothing.
 use mathlib.Core.Path.{◌≡◌, refl, sym, ap, ◌∙◌}
 use mathlib.Core.Logic.Iff

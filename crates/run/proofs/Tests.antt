@@ -3,7 +3,7 @@
 --     range_told, range_some, range_small, range_ordered, range_within   what their answer tells
 --     range_doubled, range_room, range_below                             and what follows: 2n places fit, and the first number is one of the size
 --     Summed, summed_none, summed_next, summed_all       places from one on, added up; the sum is 0 exactly where all of them are
---     place_fits_lem, sum_fits                 and fits its width
+--     place_fits_lem, sum_fits             and fits its width
 --     number_other, number_same            places are the pattern with a number exactly where they are a pattern and have it
 --     belong_range, belong_end, belong_behind, belong_found              its tests, in their order
 --     tests                                the laws that the code meets, for `search`

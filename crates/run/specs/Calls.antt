@@ -1,10 +1,10 @@
 -- What the calls on runs answer, for all numbers and every state s, well formed or not.
---     progress_reply                        a step's answer as a reply: the refusal's number, and how many shapes were handed out
---     start_check, start_reply, start_run     the start of a run (begun); a refused one is a state all 0 (no_run)
+--     progress_reply                       a step's answer as a reply: the refusal's number, and how many shapes were handed out
+--     start_check, start_reply, start_run  the start of a run (begun); a refused one is a state all 0 (no_run)
 --     raised, progress                     the figure after a step, and how the step goes
---     if_handed                             what a step answers where it hands out a shape, and where it does not
---     moved_on                              the state after a shape was handed out
---     step_reply, step_run, step_places, step_change      the step: its reply, the state that it leaves, the pattern and its change
+--     if_handed                            what a step answers where it hands out a shape, and where it does not
+--     moved_on                             the state after a shape was handed out
+--     step_reply, step_run, step_places, step_change  the step: its reply, the state that it leaves, the pattern and its change
 -- Assumes nothing.
 use Rattle.std.specs.Prelude.{cond, List, ℕ, ◌+◌, ◌^◌, ltb}
 use Rattle.shape.specs.Number.{local_pattern, change}

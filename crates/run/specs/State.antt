@@ -1,7 +1,7 @@
 -- What a run's state holds: 01, Change, run, figure.
---     state_places          as many places as a state has, whatever the size
---     no_places, padded     all of them 0; those of a pattern, and 0 behind it
---     places_at             those of the state whose next shape has the number k
+--     state_places         as many places as a state has, whatever the size
+--     no_places, padded    all of them 0; those of a pattern, and 0 behind it
+--     places_at            those of the state whose next shape has the number k
 --     same                 whether two lists are the same
 --     in_range             whether a state may stand at k on its way to the end
 --     belong               whether the parts of a state belong together; the figure is taken on trust

@@ -2,11 +2,11 @@
 --     handed d s           the patterns, each with its change, that d steps from the state s hand out
 --     after d s            the state that they leave
 --     shown                the patterns numbered first to end - 1, each with its change
---     figure_of             their changes, added up
---     run_list, run_figure   what a run hands out from its start to its end, and the figure that it ends with
+--     figure_of            their changes, added up
+--     run_list, run_figure  what a run hands out from its start to its end, and the figure that it ends with
 --     stretches, Rises     the stretches between two numbers that are cut at others, which do not fall; they may be empty
---     joined_runs, run_trees     what the runs of a whole size hand out, one run after the other, wherever it is cut; as trees
---     added_figures         and the figures of these runs, added up
+--     joined_runs, run_trees   what the runs of a whole size hand out, one run after the other, wherever it is cut; as trees
+--     added_figures        and the figures of these runs, added up
 -- Assumes nothing.
 use mathlib.Core.List.{List, [], ◌∷◌, map, flat_map, foldr}
 use Rattle.std.specs.Prelude.{ℕ, zero, suc, ◌+◌, ◌-◌, ◌*◌, ◌≤◌, take}

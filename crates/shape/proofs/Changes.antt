@@ -1,6 +1,6 @@
 -- The change of a pattern, and the changes of a whole size.
 --     difference_here, difference_later      two lists differ first at the first place, or one place later than without it
---     first_difference_lem       what the first difference of two lists in order is: before it they agree, there they differ
+--     first_difference_lem   what the first difference of two lists in order is: before it they agree, there they differ
 --     length_local           the pattern with a number has 2n places
 --     change_places          the change counts the places from the first difference to the end
 --     change_least, change_most      it is at least 1 and at most 2n

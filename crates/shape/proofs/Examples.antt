@@ -1,10 +1,10 @@
 -- Worked examples of document 01 and the papers, computed from the definitions.
---     local-.., natural-..     lines 4 and 5, and lines 9 and 10, which the two orders list the other way round
---     depth-..          the prefix excess of three shapes of size 3
---     figure-..         004, figure 2: a tree of seven nodes and its permutation
+--     local_.., natural_..     lines 4 and 5, and lines 9 and 10, which the two orders list the other way round
+--     depth_..          the prefix excess of three shapes of size 3
+--     figure_..         004, figure 2: a tree of seven nodes and its permutation
 --     record_lengths    1 + ceil(n/4) bytes
---     moved-..          moves of lines 9 and 10: from local number 8, and from natural number 9; two on, one past the last, one back, one before the first
---     not-..            01's edges: 100110 is not feasible, 2,3,1 and 2,2,1 are no tree permutations
+--     moved_..          moves of lines 9 and 10: from local number 8, and from natural number 9; two on, one past the last, one back, one before the first
+--     not_..            01's edges: 100110 is not feasible, 2,3,1 and 2,2,1 are no tree permutations
 -- Assumes nothing.
 use mathlib.Core.Path.{◌≡◌, refl}
 use mathlib.Core.List.{List, [], ◌∷◌}

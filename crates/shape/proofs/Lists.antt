@@ -2,7 +2,7 @@
 --     all_map, all_both                              what follows for each entry, from one fact or from two, follows for all
 --     pairs_all, pairs_weaken                        what follows for any two entries, or from every two, follows for every two in order
 --     all_member, all_each                           what holds of all holds of each member, and the other way
---     length-map, get_d_map                           a mapped list, place by place
+--     length-map, get_d_map                          a mapped list, place by place
 --     all_mapped, pairs_map                          all and every two of a mapped list
 --     all_cross                                      what follows for an entry of each of two lists follows for all of both
 --     all_append, all_left, all_right                all entries of u ++ v are those of u and those of v

@@ -2,7 +2,7 @@
 --     fewer_none, fewer_step, fewer_all      the trees with fewer nodes on the left than 0, than one more, than m + 1
 --     fewer_rises                no fewer trees for more nodes
 --     HasLeft                    shape k has l nodes on the left
---     left_nodes_lem, left_nodes_only      what is worked out from k is such an l, and the only one
+--     left_nodes_lem, left_nodes_only  what is worked out from k is such an l, and the only one
 --     left_below, right_below    the numbers of the two parts are below their counts
 --     node_size, node_number     a node's size and number, by its parts
 --     natural_number_below       the number is below C(n)

@@ -4,7 +4,7 @@
 --     dictionary_at                           the first difference decides
 --     positioned                              a number that follows dictionary order is the position in it
 --     local_total, natural_total              both orders of trees are total
---     local_pattern_lem, pattern_local            the local order is dictionary order of patterns of one size
+--     local_pattern_lem, pattern_local        the local order is dictionary order of patterns of one size
 --     natural_size                            what stands first in the natural order is not larger
 --     natural_permutation, permutation_natural     the natural order is dictionary order of permutations of one size
 -- Assumes nothing.
@@ -113,7 +113,7 @@ reflected compare write kept s t e d =
 -- ---- the local order
 
 local_differs : {s t : Tree} → Local s t → s ≡ t → ⊥
-local_differs (Local.empty_first {l = l} {r = r}) e = cc
+local_differs Local.empty_first e = cc
 local_differs (Local.left_first {l = l} {l' = l'} d) e = let left : l ≡ l' = cc in local_differs d left
 local_differs (Local.right_first {r = r} {r' = r'} d) e = let right : r ≡ r' = cc in local_differs d right
 

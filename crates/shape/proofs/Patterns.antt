@@ -9,7 +9,7 @@
 --     pattern_read         the tree is read back from its pattern
 --     pattern_of           a feasible pattern is the pattern of the tree read from it
 --     length_pattern       2n places
---     head_part_lem            a node's pattern is its head and then the pattern of its right part
+--     head_part_lem        a node's pattern is its head and then the pattern of its right part
 --     head_length          the head has two places for each node of the left part, and two for the root
 --     patterns_faithful    all of it together: patterns are one to one with trees
 -- Assumes nothing.

@@ -1,12 +1,12 @@
 -- What a call answers, and what it leaves in a lent slice, for every size n, every list p that the slice holds and every number k. A refusal
 -- says its number and nothing else, and the slice stays as it was lent. N is the numbering, F and G are forms.
---     check_reply                               of a list that is only read
---     number_reply                              its number
---     shape_reply, shape_end                     the shape with a number
---     successor_reply, successor_end             one step on
---     predecessor_reply, predecessor_end         one step back
---     conversion_check                          of p, written in the form F, that is to be written otherwise in the place of q, `long n` entries
---     conversion_reply, conversion_end           p, written in the form F, written in the form G, in the place of q
+--     check_reply                              of a list that is only read
+--     number_reply                             its number
+--     shape_reply, shape_end                   the shape with a number
+--     successor_reply, successor_end           one step on
+--     predecessor_reply, predecessor_end       one step back
+--     conversion_check                         of p, written in the form F, that is to be written otherwise in the place of q, `long n` entries
+--     conversion_reply, conversion_end         p, written in the form F, written in the form G, in the place of q
 -- Assumes nothing.
 use Rattle.std.specs.Prelude.{List, ℕ, length}
 use Rattle.shape.specs.Form.{Form}

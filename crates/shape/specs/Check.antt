@@ -1,15 +1,15 @@
 -- Which refusal a call gives: 01, Refusal numbers. Tests stand in the order of the refusals' numbers, so the lowest that applies is given.
 --     unless t f next       refused for f where the test t fails, and otherwise what comes next
---     and_then               the first refusal of two checks
+--     and_then              the first refusal of two checks
 --     sized n, Sized n      the test of a size, and what it tests
---     record_length          how many bytes a packed record has
---     length_of              how long what a caller names is to be
---     room_of, room_for       what is asked of a list that is written, by its length
+--     record_length         how many bytes a packed record has
+--     length_of             how long what a caller names is to be
+--     room_of, room_for     what is asked of a list that is written, by its length
 --     contents              and of what a list holds
 --     checked F n p         a list that is lent to be read as a shape of size n, written in the form F: refusals 1 to 4
---     number_check, successor_check, predecessor_check      refusals 1 to 7 of the calls over a numbering
+--     number_check, successor_check, predecessor_check   refusals 1 to 7 of the calls over a numbering
 --     numbered, reply       what a call answers after a check, and what that says
---     unless_refused         what it leaves in a lent list, or hands back
+--     unless_refused        what it leaves in a lent list, or hands back
 -- Assumes nothing.
 use Rattle.std.specs.Prelude.{Bool, true, false, ◌&&◌, List, ℕ, ◌+◌, ◌/◌, ◌≤◌, leb, ltb, eqb, length}
 use Rattle.catalan.specs.Count.{largest_size}

@@ -1,5 +1,5 @@
 -- What the loops of a check look for.
---     first_fault i d f      the first of the d numbers from i on at which the test f fails; i + d where it passes at all of them
+--     first_fault i d f     the first of the d numbers from i on at which the test f fails; i + d where it passes at all of them
 --     fits F n p i          entry i, and the entries up to it, can be those of a shape of size n in the form F
 -- Assumes nothing.
 use Rattle.std.specs.Prelude.{Bool, cond, ◌&&◌, List, ℕ, zero, suc}

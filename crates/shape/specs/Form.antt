@@ -3,11 +3,11 @@
 --     below x p                how many entries of p are less than x
 --     Feasible n p             p is a feasible pattern of size n
 --     TreePermutation n p      p is a tree permutation of size n
---     place_fits, balance_fits   the same of a pattern, test by test and place by place
---     entry_fits, triple_fits    the same of a permutation
+--     place_fits, balance_fits  the same of a pattern, test by test and place by place
+--     entry_fits, triple_fits  the same of a permutation
 --     every n f                the test f passes for 0 .. n - 1
---     pattern_tree p            the tree with pattern p, by the trees that its last places complete (forest, joined)
---     permutation_tree p        the tree with permutation p, cut at its first entry (cut_tree)
+--     pattern_tree p           the tree with pattern p, by the trees that its last places complete (forest, joined)
+--     permutation_tree p       the tree with permutation p, cut at its first entry (cut_tree)
 --                              (of a list that is not well formed these two say nothing)
 --     Form                     a form: how long a list is, what is tested of it, what is well formed, and the tree there and back;
 --                              `patterns` and `permutations` are the two

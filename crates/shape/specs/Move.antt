@@ -2,9 +2,9 @@
 -- holds. What the call says and leaves is defined for every d, those that 64 bits do not hold among them.
 --     target                   the number that is so much higher or lower: below 0 or past the last number, too
 --     reaches, moved           whether a shape has that number, and the shape
---     end_past                  which end of the list a move in that direction can pass
---     move_check                refusals 1 to 4, then 6 for a target past the last number, then 7 for one below 0
---     move_reply, move_end       what the call says, and what it leaves
+--     end_past                 which end of the list a move in that direction can pass
+--     move_check               refusals 1 to 4, then 6 for a target past the last number, then 7 for one below 0
+--     move_reply, move_end     what the call says, and what it leaves
 -- Assumes nothing.
 use Rattle.std.specs.Prelude.{Bool, ◌&&◌, List, ℕ, ℤ, pos, negsuc, nat_abs, ◌+ℤ◌}
 use Rattle.std.specs.Int.Signed.{lt_z, non_neg}

@@ -1,9 +1,9 @@
 -- Numbers of shapes, from 0, shapes from numbers, change and depth.
---     local_number p             the number of pattern p in the local order
---     local_pattern n k          the pattern of size n with that number, place by place (local_places)
---     natural_number t           the number of tree t in the natural order
---     fewer_left m l             how many trees of m + 1 nodes have fewer than l on the left
---     natural_tree n k           the tree of n nodes with that number (numbered_tree), its left part's size first (left_nodes)
+--     local_number p            the number of pattern p in the local order
+--     local_pattern n k         the pattern of size n with that number, place by place (local_places)
+--     natural_number t          the number of tree t in the natural order
+--     fewer_left m l            how many trees of m + 1 nodes have fewer than l on the left
+--     natural_tree n k          the tree of n nodes with that number (numbered_tree), its left part's size first (left_nodes)
 --     change n k                the change of the pattern numbered k, by the first difference of two lists (first_difference)
 --     depth p                   the depth of the shape with pattern p, the largest of some numbers (largest)
 -- Assumes nothing.

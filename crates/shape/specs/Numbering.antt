@@ -4,8 +4,8 @@
 --     total, WellFormed      how many shapes there are, and which lists are one
 --     Lawful                 number and shape are inverse below the total, and the number is the position
 --     next, previous         one step along a numbering
---     numbers_from            so many numbers, from one on
---     list_of, trees_of        the whole list of shapes in order, as lists and as trees
+--     numbers_from           so many numbers, from one on
+--     list_of, trees_of      the whole list of shapes in order, as lists and as trees
 --     EachOnce               the list has each tree of the size exactly once, in order
 -- Assumes nothing.
 use Rattle.std.specs.Prelude.{◌≡◌, ◌↔◌, ℕ, zero, suc, ◌+◌, ◌-◌, ◌<◌, length}

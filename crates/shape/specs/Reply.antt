@@ -1,7 +1,7 @@
 -- What an answer says to its user: the refusal's number, 0 where there is none, and a value, 0 where there is nothing to say.
---     refusal_number            1 to 11, the numbers by which users know the refusals: 01, Refusal numbers
+--     refusal_number           1 to 11, the numbers by which users know the refusals: 01, Refusal numbers
 --     Reply, refused           the two numbers, and those of a refusal
---     outcome_reply, numbered_reply      each answer as a reply
+--     outcome_reply, numbered_reply    each answer as a reply
 -- Assumes nothing.
 use Rattle.std.specs.Prelude.{ℕ}
 use Rattle.shape.specs.declared.Refusal.{Refusal}

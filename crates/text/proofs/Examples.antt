@@ -1,8 +1,8 @@
 -- Worked examples of a sheet's lines, computed from the definitions: 01, Sheet program.
---     shape_line_lem             1 101100 1,3,2 2 3
---     run_line_lem               RUN 3 1 4
---     end_line_lem               END 3 11
---     no_line_lem                NO 11
+--     shape_line_lem         1 101100 1,3,2 2 3
+--     run_line_lem           RUN 3 1 4
+--     end_line_lem           END 3 11
+--     no_line_lem            NO 11
 -- Assumes nothing.
 use mathlib.Core.Path.{◌≡◌, refl}
 use mathlib.Core.List.{[], ◌∷◌}

@@ -1,7 +1,7 @@
 -- Worked examples of inputs, computed from the definitions: 01, Sheet program.
 --     line_3_1_4           the line of 3, 1 and 4, byte by byte
---     reads-.., asked-..   it reads, as these numbers; so does the largest number of 64 bits
---     not-..               a leading zero, a doubled space, no newline, a carriage return, a second newline, a number past 64 bits,
+--     reads_.., asked_..   it reads, as these numbers; so does the largest number of 64 bits
+--     not_..               a leading zero, a doubled space, no newline, a carriage return, a second newline, a number past 64 bits,
 --                          a number missing, a sign
 -- Assumes nothing.
 use mathlib.Core.Path.{◌≡◌, refl}

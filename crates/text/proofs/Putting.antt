@@ -3,7 +3,7 @@
 --     tens_most                        whether a number has tens, as a number, is 1 at most
 --     small_count, small_written       a number below 100: the units are put over the tens where there are none
 --     word_written                     four stores of one byte each put the bytes of a word
---     Label, label_word_lem                a label's word is its text, and two bytes more at most
+--     Label, label_word_lem            a label's word is its text, and two bytes more at most
 --     bits_next, bits_end, bits_count  a pattern, place by place, and a space behind it
 --     Entries                          a permutation, entry by entry: the rest is what those from i on come to
 --     entries_start, entries_next, entries_count, entries_end      so it is at the start, and stays; in the end a space is put

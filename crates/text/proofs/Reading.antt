@@ -1,15 +1,15 @@
 -- Laws of reading an input: s is a text, or the digits of a number in it.
 --     digit_means                  what the test of a digit finds
---     front-.., behind-..          the digits that a text begins with and what stands behind them, by its first byte: -yes where that is one
+--     front_.., behind_..          the digits that a text begins with and what stands behind them, by its first byte: _yes where that is one
 --     front_all, parts             they are digits; the text is these and those one after the other
 --     unread, refused              what is said where an answer reads, of one that does not
---     ends-..                      where the digits end: not before a digit (-turn), and before the first byte that is none
---     form-..                      whether digits are in form, by how many they are
---     digit-..                     a digit's value, and that 64 bits hold the number with that digit more
---     value-..                     the number that the digits write: from each place on what is left to read, to the end, and past 64 bits
---     field-..                     the tests of a field, each where it fails; what is told where all pass; and the bounds that its code asks
+--     ends_..                      where the digits end: not before a digit (_turn), and before the first byte that is none
+--     form_..                      whether digits are in form, by how many they are
+--     digit_..                     a digit's value, and that 64 bits hold the number with that digit more
+--     value_..                     the number that the digits write: from each place on what is left to read, to the end, and past 64 bits
+--     field_..                     the tests of a field, each where it fails; what is told where all pass; and the bounds that its code asks
 --     Read, field_read, field_unread     what the answer of `field` tells
---     read-..                      the same for the line: each field that does not read, a text that goes on, and a text that reads
+--     read_..                      the same for the line: each field that does not read, a text that goes on, and a text that reads
 -- Assumes nothing.
 use mathlib.Core.Path.{◌≡◌, refl, sym, ap, ◌∙◌, subst⁻¹}
 use mathlib.Core.Logic.{◌↔◌}

@@ -1,17 +1,17 @@
 -- What a sheet's input asks for: 01, Sheet program.
---     ask_line              the line that asks for a sheet
+--     ask_line             the line that asks for a sheet
 --     Asks                 an input is that line, and its numbers fit 64 bits
 -- Whether an input is such a line, and of what numbers, as it is read; `asks_exactly` says that the two are the same:
 --     Digit, digit         a byte is a digit; the test of it
 --     front, behind        the digits that a text begins with, and what stands behind them
---     value_from, value     the number that digits write, after those of v and alone
---     in_form               whether digits are some, with no 0 before others
+--     value_from, value    the number that digits write, after those of v and alone
+--     in_form              whether digits are some, with no 0 before others
 --     fits                 whether 64 bits hold the number that they write
---     ends_in, field        whether a text begins with a byte; with a number and that byte
+--     ends_in, field       whether a text begins with a byte; with a number and that byte
 --     next                 the text behind both
 --     nothing              whether there is no text
 --     reads                whether an input reads as three numbers with nothing after them
---     asked_size, asked_first, asked_end      the numbers that it asks for
+--     asked_size, asked_first, asked_end   the numbers that it asks for
 -- Assumes nothing.
 use Rattle.std.specs.Prelude.{◌≡◌, Bool, true, false, cond, ◌&&◌, List, [], ◌∷◌, ℕ, ◌+◌, ◌-◌, ◌*◌, ◌^◌, ◌≤◌, ◌<◌, leb, ltb, eqb, drop}
 use Rattle.text.specs.Text.{decimal, line}

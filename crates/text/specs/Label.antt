@@ -1,7 +1,7 @@
 -- A label's text as one word of 32 bits, which is put by one store.
 --     packed text      the number whose bytes are the text, the first one lowest
---     label_word n      a number below 100 and a comma behind it, and in the highest byte how many bytes that is
---     word_bytes w      the four bytes of a word, the lowest first
+--     label_word n     a number below 100 and a comma behind it, and in the highest byte how many bytes that is
+--     word_bytes w     the four bytes of a word, the lowest first
 -- Assumes nothing.
 use Rattle.std.specs.Prelude.{List, [], ◌∷◌, ◌++◌, ℕ, ◌+◌, ◌*◌, ◌/◌, ◌%◌, length}
 use Rattle.text.specs.Text.{decimal}

@@ -3,11 +3,11 @@
 --     bits p                          a pattern, a digit for each place
 --     commas q                        numbers as decimals, with commas between them
 --     line fields                     single spaces part the fields, and a newline ends the line
---     run_word, end_word, no_word        the words RUN, END and NO
---     run_line, end_line, no_line        the lines of a sheet that are no shape's
---     shape_text, shape_line            a shape's, from its fields and from its number
---     shape_lines                      those of the shapes numbered first to end - 1
---     line_room                        a buffer of so many bytes has room for any line of a sheet
+--     run_word, end_word, no_word     the words RUN, END and NO
+--     run_line, end_line, no_line     the lines of a sheet that are no shape's
+--     shape_text, shape_line          a shape's, from its fields and from its number
+--     shape_lines                     those of the shapes numbered first to end - 1
+--     line_room                       a buffer of so many bytes has room for any line of a sheet
 --     written d at text               d with the text in it, from place `at` on
 -- Assumes nothing.
 use Rattle.std.specs.Prelude.{cond, ℕ, zero, suc, ◌+◌, ◌-◌, ◌/◌, ◌%◌, ltb, length, take, drop}

@@ -6,7 +6,7 @@
 --     depth_more                      the depth of one place more
 --     excess_small, depths_small      no excess and no depth is above the size
 --     Climbing                        the depths up to a place are written, and the excess there is known
---     climb-..                        the loop of depths: -begin is what holds at its start, -turn what one turn makes, -end what it leaves;
+--     climb_..                        the loop of depths: _begin is what holds at its start, _turn what one turn makes, _end what it leaves;
 --                                     `climb` is what it asks on the way, for `search`
 --     pairs_low, least_low            behind the changed place no more ones than zeros have come
 --     upper_climbs, upper_rests       so the upper one of two neighbours climbs by one at the changed place and behind it no further

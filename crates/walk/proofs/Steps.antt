@@ -1,8 +1,8 @@
 -- Laws of one step of a shape in both forms.
 --     mapped f i k p                  p, and f of each entry from i on and before k
 --     one_written, all_written        entries written one by one: the next of them, and all
---     relabel-.., rising-.., filled-..      the loops of relabel, put_rising and deepen: -begin is what holds at the start, -turn what one turn
---                                     makes, -end what a loop leaves
+--     relabel_.., rising_.., filled_..      the loops of relabel, put_rising and deepen: _begin is what holds at the start, _turn what one turn
+--                                     makes, _end what a loop leaves
 --     Moving, moving                  what is known of a block that moves: there are labels for all that is written
 --     written_room                    an entry is written, and those behind it are there too
 --     deepened_room                   there are depths to write, and none is too large

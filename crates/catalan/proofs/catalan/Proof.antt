@@ -12,13 +12,13 @@ pub catalan_spec : {M : Type 1} → statement M
 catalan_spec =
     tie.close
     (tie.spec
-    -- returns
+    -- returns-then-n-gt36
     (λ c. table_past c.before.args.n (omega arith))
-    -- table-requires
+    -- table-entries-requires
     (λ c κs. search rules)
-    -- mul-result
+    -- offset_bounds-entries-n
     (λ c. search rules)
-    -- array-read-result
+    -- bounds-entries-n
     (λ c. search rules)
-    -- returns-2
+    -- returns
     (λ c. search entry))

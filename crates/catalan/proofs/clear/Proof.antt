@@ -24,21 +24,21 @@ clear_spec =
     (tie.spec
     invariant-loop-i
     decreases-loop-i
-    -- slice-write-row
+    -- bounds-row-0
     (λ c. search turn)
-    -- loop-holds
+    -- loop-i-init
     (λ c. search turn)
-    -- mul-row
+    -- offset_bounds-row-i
     (λ c. search turn)
-    -- slice-write-row-2
+    -- bounds-row-i
     (λ c. search turn)
-    -- add-i
+    -- overflow_add-i
     (λ c. search turn)
-    -- loop-less
+    -- loop-i-smaller
     (λ c. search turn)
-    -- loop-again
+    -- loop-i-preserved
     (λ c. search turn)
-    -- same-length
+    -- shape_of-row
     (λ c. search turn)
     -- returns
     (λ c. search turn))

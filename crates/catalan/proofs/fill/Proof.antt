@@ -25,17 +25,17 @@ fill_spec =
     decreases-loop-b
     -- clear-requires
     (λ c κs. search turn)
-    -- loop-holds
+    -- loop-b-init
     (λ c. search turn)
     -- grow-requires
     (λ c κs. search turn)
-    -- add-b
+    -- overflow_add-b
     (λ c. search turn)
-    -- loop-less
+    -- loop-b-smaller
     (λ c. search turn)
-    -- loop-again
+    -- loop-b-preserved
     (λ c. search turn)
-    -- same-length
+    -- shape_of-row
     (λ c. search turn)
     -- returns
     (λ c. search turn))

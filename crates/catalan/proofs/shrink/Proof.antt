@@ -25,29 +25,29 @@ shrink_spec =
     (tie.spec
     invariant-loop-a
     decreases-loop-a
-    -- loop-holds
+    -- loop-a-init
     (λ c. search turn)
-    -- sub-row
+    -- overflow_sub-row
     (λ c. search turn)
-    -- mul-row
+    -- offset_bounds-row-a
     (λ c. search turn)
-    -- slice-read-row
+    -- bounds-row-a
     (λ c. search turn)
-    -- mul-row-2
+    -- offset_bounds-row-a-in-loop-a
     (λ c. search turn)
-    -- slice-read-row-2
+    -- bounds-row-a-in-loop-a
     (λ c. search turn)
-    -- sub-row-2
+    -- overflow_sub-row-in-loop-a
     (λ c. search turn)
-    -- slice-write-row
+    -- bounds-row-a-in-loop-a-2
     (λ c. search turn)
-    -- sub-a
+    -- overflow_sub-a
     (λ c. search turn)
-    -- loop-less
+    -- loop-a-smaller
     (λ c. search turn)
-    -- loop-again
+    -- loop-a-preserved
     (λ c. search turn)
-    -- same-length
+    -- shape_of-row
     (λ c. search turn)
     -- returns
     (λ c. search turn))

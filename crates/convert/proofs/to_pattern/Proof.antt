@@ -12,23 +12,23 @@ to_pattern_spec =
     (tie.spec
     -- room-requires
     (λ c κs. search answers)
-    -- enum-known-refusal
+    -- enum_known-refusal
     (λ c. search answers)
-    -- enum-told
+    -- enum_told-1
     (λ c. search answers)
     -- check-requires
     (λ c κs. search answers)
-    -- enum-known-refusal-2
+    -- enum_known-refusal-in-Refused-check
     (λ c. search answers)
-    -- enum-told-2
+    -- enum_told-in-Done-check
     (λ c. search answers)
-    -- pattern-of-requires
+    -- pattern_of-requires
     (λ c κs. search answers)
-    -- returns
+    -- returns-in-Refused
     (λ c. search answers)
-    -- returns-2
+    -- returns-in-Refused-check
     (λ c. search answers)
-    -- same-length
+    -- shape_of-places
     (λ c. search answers)
-    -- returns-3
+    -- returns-in-Done-check
     (λ c. search answers))

@@ -11,17 +11,17 @@ pub added_spec : {M : Type 1} → statement M
 added_spec =
     tie.close
     (tie.spec
-    -- is-back-requires
+    -- is_back-requires
     (λ c κs. search sign)
-    -- one-less-requires
+    -- one_less-requires
     (λ c κs. search sign)
     -- onward-requires
     (λ c κs. search sign)
-    -- sub-result
+    -- overflow_sub-result
     (λ c. search sign)
-    -- returns
+    -- returns-then-is_back
     (λ c. search sign)
     -- onward-requires-2
     (λ c κs. search sign)
-    -- returns-2
+    -- returns
     (λ c. search sign))

@@ -11,9 +11,9 @@ pub end_past_spec : {M : Type 1} → statement M
 end_past_spec =
     tie.close
     (tie.spec
-    -- is-back-requires
+    -- is_back-requires
     (λ c κs. search sign)
-    -- returns
+    -- returns-then-is_back
     (λ c. search sign)
-    -- returns-2
+    -- returns
     (λ c. search sign))

@@ -11,7 +11,7 @@ pub one_less_spec : {M : Type 1} → statement M
 one_less_spec =
     tie.close
     (tie.spec
-    -- sub-result
+    -- overflow_sub-result
     (λ c. search sign)
     -- returns
     (λ c. search sign))

@@ -9,7 +9,7 @@ pub onward_spec : {M : Type 1} → statement M
 onward_spec =
     tie.close
     (tie.spec
-    -- cast-result
+    -- overflow_cast-result
     (λ c. read_fits c.args.distance _ c.ranges.distance c.requires (to_z-of_z c.ranges.distance))
     -- returns
     (λ c. read_is c.args.distance _ c.ranges.distance c.requires (to_z-of_z c.ranges.distance)))

@@ -8,13 +8,13 @@ pub numbered_reply_spec : {M : Type 1} → statement M
 numbered_reply_spec =
     tie.close
     (tie.spec
-    -- enum-known-numbered
+    -- enum_known-numbered
     (λ c. search told)
-    -- enum-known-numbered-2
+    -- enum_known-numbered-in-Refused-1
     (λ c. search told)
-    -- outcome-reply-requires
+    -- outcome_reply-requires
     (λ c κs. search told)
-    -- returns
+    -- returns-in-Value
     (λ c. search told)
-    -- returns-2
+    -- returns-in-Refused
     (λ c. search told))

@@ -8,13 +8,13 @@ pub outcome_reply_spec : {M : Type 1} → statement M
 outcome_reply_spec =
     tie.close
     (tie.spec
-    -- enum-told
+    -- enum_told-1
     (λ c. search told)
-    -- enum-known-outcome
+    -- enum_known-outcome
     (λ c. search told)
     -- number-requires
     (λ c κs. search told)
-    -- returns
+    -- returns-in-Done
     (λ c. search told)
-    -- returns-2
+    -- returns-in-Refused
     (λ c. search told))

@@ -8,7 +8,7 @@ pub began_spec : {M : Type 1} → statement M
 began_spec =
     tie.close
     (tie.spec
-    -- returns
+    -- returns-then-opened
     (λ c. search tests)
-    -- returns-2
+    -- returns
     (λ c. search tests))

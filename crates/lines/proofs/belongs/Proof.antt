@@ -8,17 +8,17 @@ pub belongs_spec : {M : Type 1} → statement M
 belongs_spec =
     tie.close
     (tie.spec
-    -- returns
+    -- returns-then-sheet-ne0
     (λ c. search tests)
-    -- can-go-on-requires
+    -- can_go_on-requires
     (λ c κs. search tests)
-    -- returns-2
+    -- returns-then-not-can_go_on
     (λ c. search tests)
     -- began-requires
     (λ c κs. search tests)
-    -- returns-3
+    -- returns-then-not-began
     (λ c. search tests)
     -- over-requires
     (λ c κs. search tests)
-    -- returns-4
+    -- returns
     (λ c. search tests))

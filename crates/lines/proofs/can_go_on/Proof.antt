@@ -8,17 +8,17 @@ pub can_go_on_spec : {M : Type 1} → statement M
 can_go_on_spec =
     tie.close
     (tie.spec
-    -- step-requires
+    -- step-stepped-requires
     (λ c κs. search tests)
-    -- enum-told
+    -- enum_told-1
     (λ c. search tests)
-    -- enum-told-2
+    -- enum_told-in-Done
     (λ c. search tests)
-    -- enum-told-3
+    -- enum_told-in-Refused
     (λ c. search tests)
-    -- returns
+    -- returns-in-Handed
     (λ c. search tests)
-    -- returns-2
+    -- returns-in-Done
     (λ c. search tests)
-    -- returns-3
+    -- returns-in-Refused
     (λ c. search tests))

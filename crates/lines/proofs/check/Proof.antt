@@ -8,11 +8,11 @@ pub check_spec : {M : Type 1} → statement M
 check_spec =
     tie.close
     (tie.spec
-    -- returns
+    -- returns-then-room-lt256
     (λ c. search tests)
     -- belongs-requires
     (λ c κs. search tests)
-    -- returns-2
+    -- returns-then-not-belongs
     (λ c. search tests)
-    -- returns-3
+    -- returns
     (λ c. search tests))

@@ -13,7 +13,7 @@ hand_out_spec =
     (tie.spec
     -- handed-requires
     (λ c κs. search pieces)
-    -- returns
+    -- returns-then-sheet
     (λ c.
     let s = c.args.sheet in
     let out = c.args.out.now in
@@ -21,13 +21,13 @@ hand_out_spec =
     let piece = piece_over s out passed c.if-sheet.true in
     piece_answers s out passed piece refl refl
     c.handed.result c.handed.ensures.0 c.handed.ensures.1)
-    -- put-no-requires
+    -- put_no-bytes-requires
     (λ c κs. search pieces)
-    -- handed-requires-2
+    -- handed-requires-then-sheet-ne0
     (λ c κs. search pieces)
-    -- same-length
+    -- shape_of-out-then-sheet-ne0
     (λ c. search pieces)
-    -- returns-2
+    -- returns-then-sheet-ne0
     (λ c.
     let s = c.args.sheet in
     let out = c.args.out.now in
@@ -35,13 +35,13 @@ hand_out_spec =
     let piece = piece_no s out passed c.if-sheet.false c.if-sheet-ne0.true in
     piece_answers s out passed piece c.put_no-bytes.ensures.0 c.put_no-bytes.ensures.1
     c.handed-then-sheet-ne0.result c.handed-then-sheet-ne0.ensures.0 c.handed-then-sheet-ne0.ensures.1)
-    -- put-run-requires
+    -- put_run-bytes-requires
     (λ c κs. search pieces)
-    -- handed-requires-3
+    -- handed-requires-then-not-sheet
     (λ c κs. search pieces)
-    -- same-length-2
+    -- shape_of-out-then-not-sheet
     (λ c. search pieces)
-    -- returns-3
+    -- returns-then-not-sheet
     (λ c.
     let s = c.args.sheet in
     let out = c.args.out.now in
@@ -49,15 +49,15 @@ hand_out_spec =
     let piece = piece_first s out passed c.if-sheet.false c.if-sheet-ne0.false c.if-not-sheet.true in
     piece_answers s out passed piece c.put_run-bytes.ensures.0 c.put_run-bytes.ensures.1
     c.handed-then-not-sheet.result c.handed-then-not-sheet.ensures.0 c.handed-then-not-sheet.ensures.1)
-    -- sub-put-end
+    -- overflow_sub-run
     (λ c. search pieces)
-    -- put-end-requires
+    -- put_end-bytes-requires
     (λ c κs. search pieces)
-    -- handed-requires-4
+    -- handed-requires-then-run
     (λ c κs. search pieces)
-    -- same-length-3
+    -- shape_of-out-then-run
     (λ c. search pieces)
-    -- returns-4
+    -- returns-then-run
     (λ c.
     let s = c.args.sheet in
     let out = c.args.out.now in
@@ -65,13 +65,13 @@ hand_out_spec =
     let piece = piece_last s out passed c.if-sheet.false c.if-sheet-ne0.false c.if-not-sheet.false c.if-run.true in
     piece_answers s out passed piece c.put_end-bytes.ensures.0 c.put_end-bytes.ensures.1
     c.handed-then-run.result c.handed-then-run.ensures.0 c.handed-then-run.ensures.1)
-    -- list-requires
+    -- list-listed-requires
     (λ c κs. search pieces)
-    -- handed-requires-5
+    -- handed-requires-2
     (λ c κs. search pieces)
-    -- same-length-4
+    -- shape_of-out
     (λ c. search pieces)
-    -- returns-5
+    -- returns
     (λ c.
     let (bytes, (run, put)) = c.list-listed.ensures in
     let s = c.args.sheet in

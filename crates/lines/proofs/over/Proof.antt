@@ -8,7 +8,7 @@ pub over_spec : {M : Type 1} → statement M
 over_spec =
     tie.close
     (tie.spec
-    -- returns
+    -- returns-then-ended
     (λ c. search tests)
-    -- returns-2
+    -- returns
     (λ c. search tests))

@@ -21,27 +21,27 @@ before_spec =
     (tie.spec
     invariant-loop-i
     decreases-loop-i
-    -- loop-holds
+    -- loop-i-init
     (λ c. search turn)
-    -- mul-loop
+    -- overflow_mul-size
     (λ c. search turn)
-    -- shared-slice-read-if1
+    -- bounds-first-i
     (λ c. search turn)
-    -- shared-slice-read-if1-2
+    -- bounds-second-i
+    (λ c. search turn)
+    -- returns-then-first-i
+    (λ c. search turn)
+    -- bounds-first-i-in-loop-i
+    (λ c. search turn)
+    -- bounds-second-i-in-loop-i
+    (λ c. search turn)
+    -- returns-then-first-i-2
+    (λ c. search turn)
+    -- overflow_add-i
+    (λ c. search turn)
+    -- loop-i-smaller
+    (λ c. search turn)
+    -- loop-i-preserved
     (λ c. search turn)
     -- returns
-    (λ c. search turn)
-    -- shared-slice-read-if2
-    (λ c. search turn)
-    -- shared-slice-read-if2-2
-    (λ c. search turn)
-    -- returns-2
-    (λ c. search turn)
-    -- add-i
-    (λ c. search turn)
-    -- loop-less
-    (λ c. search turn)
-    -- loop-again
-    (λ c. search turn)
-    -- returns-3
     (λ c. search turn))

@@ -19,47 +19,47 @@ depth_spec =
     (tie.spec
     invariant-loop-k
     decreases-loop-k
-    -- loop-holds
+    -- loop-k-init
     (λ c. search turn)
-    -- mul-first
+    -- overflow_mul-first
     (λ c. search turn)
-    -- shared-slice-read-first
+    -- bounds-places-k
     (λ c. search turn)
-    -- cast-first
+    -- overflow_cast-first
     (λ c. search turn)
-    -- mul-second
+    -- overflow_mul-second
     (λ c. search turn)
-    -- add-second
+    -- overflow_add-second
     (λ c. search turn)
-    -- shared-slice-read-second
+    -- bounds-places-k-in-loop-k
     (λ c. search turn)
-    -- cast-second
+    -- overflow_cast-second
     (λ c. search turn)
-    -- mul-top
+    -- overflow_mul-top
     (λ c. search turn)
-    -- add-top
+    -- overflow_add-top
     (λ c. search turn)
-    -- add-top-2
+    -- overflow_add-top-in-loop-k
     (λ c. search turn)
-    -- sub-top
+    -- overflow_sub-top
     (λ c. search turn)
-    -- add-excess
+    -- overflow_add-excess
     (λ c. search turn)
-    -- mul-excess
+    -- overflow_mul-excess
     (λ c. search turn)
-    -- add-excess-2
+    -- overflow_add-excess-in-loop-k
     (λ c. search turn)
-    -- sub-excess
+    -- overflow_sub-excess
     (λ c. search turn)
-    -- add-k
+    -- overflow_add-k
     (λ c. search turn)
-    -- loop-less
+    -- loop-k-smaller-then-top-largest
     (λ c. search turn)
-    -- loop-again
+    -- loop-k-preserved-then-top-largest
     (λ c. search turn)
-    -- loop-less-2
+    -- loop-k-smaller
     (λ c. search turn)
-    -- loop-again-2
+    -- loop-k-preserved
     (λ c. search turn)
     -- returns
     (λ c. search turn))

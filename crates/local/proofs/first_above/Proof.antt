@@ -23,17 +23,17 @@ first_above_spec =
     (tie.spec
     invariant-loop-i
     decreases-loop-i
-    -- loop-holds
+    -- loop-i-init
     (λ c. search turn)
-    -- shared-slice-read-if1
+    -- bounds-places-i
     (λ c. search turn)
-    -- returns
+    -- returns-then-places-i
     (λ c. search turn)
-    -- add-i
+    -- overflow_add-i
     (λ c. search turn)
-    -- loop-less
+    -- loop-i-smaller
     (λ c. search turn)
-    -- loop-again
+    -- loop-i-preserved
     (λ c. (search turn, search turn))
-    -- returns-2
+    -- returns
     (λ c. search turn))

@@ -27,23 +27,23 @@ head_length_spec =
     (tie.spec
     invariant-loop-open
     decreases-loop-open
-    -- loop-holds
+    -- loop-open-init
     (λ c. search turn)
-    -- shared-slice-read-open
+    -- bounds-places-i
     (λ c. search turn)
-    -- cast-open
+    -- overflow_cast-open
     (λ c. search turn)
-    -- mul-open
+    -- overflow_mul-open
     (λ c. search turn)
-    -- add-open
+    -- overflow_add-open
     (λ c. search turn)
-    -- sub-open
+    -- overflow_sub-open
     (λ c. search turn)
-    -- add-i
+    -- overflow_add-i
     (λ c. search turn)
-    -- loop-less
+    -- loop-open-smaller
     (λ c. search turn)
-    -- loop-again
+    -- loop-open-preserved
     (λ c. search turn)
     -- returns
     (λ c. search turn))

@@ -43,63 +43,63 @@ move_by_spec =
     (tie.spec
     invariant-loop-row
     decreases-loop-row
-    -- array-write-row
+    -- bounds-row-0
     (λ c. search turn)
-    -- added-requires
+    -- added-target-requires
     (λ c κs. search turn)
-    -- mul-start
+    -- overflow_mul-start
     (λ c. search turn)
-    -- loop-holds
+    -- loop-row-init
     (λ c. search turn)
-    -- mul-loop
+    -- offset_bounds-row-ones
     (λ c. search turn)
-    -- array-read-loop
+    -- bounds-row-ones
     (λ c. search turn)
-    -- returns
+    -- returns-then-start-eq0
     (λ c. search turn)
-    -- sub-start
+    -- overflow_sub-start
     (λ c. search turn)
-    -- slice-read-if2
+    -- bounds-places-start
     (λ c. search turn)
-    -- slice-aggregate-grow
+    -- slice_bounds-grow-end
     (λ c. search turn)
     -- grow-requires
     (λ c κs. search turn)
-    -- add-zeros
+    -- overflow_add-zeros
     (λ c. search turn)
-    -- loop-less
+    -- loop-row-smaller-then-places-start-eq0
     (λ c. search turn)
-    -- loop-again
+    -- loop-row-preserved-then-places-start-eq0
     (λ c. search turn)
-    -- add-wrapping-add-u64
+    -- overflow_add-ones
     (λ c. search turn)
-    -- mul-wrapping-add-u64
+    -- offset_bounds-row-ones-else-places-start-eq0
     (λ c. search turn)
-    -- array-read-wrapping-add-u64
+    -- bounds-row-ones-else-places-start-eq0
     (λ c. search turn)
-    -- mul-wrapping-add-u64-2
+    -- offset_bounds-row-ones-else-places-start-eq0-2
     (λ c. search turn)
-    -- array-read-wrapping-add-u64-2
+    -- bounds-row-ones-else-places-start-eq0-2
     (λ c. search turn)
-    -- sub-wrapping-add-u64
+    -- overflow_sub-row
     (λ c. search turn)
-    -- wrapping-add-u64-requires
+    -- wrapping_add_u64-target-requires
     (λ c κs. search turn)
-    -- add-ones
+    -- overflow_add-ones-else-places-start-eq0
     (λ c. search turn)
-    -- loop-less-2
+    -- loop-row-smaller
     (λ c. search turn)
-    -- loop-again-2
+    -- loop-row-preserved
     (λ c. search turn)
-    -- slice-aggregate-shrink
+    -- slice_bounds-shrink-end
     (λ c. search turn)
     -- shrink-requires
     (λ c κs. search turn)
-    -- slice-aggregate-put-numbered
+    -- slice_bounds-put_numbered-end
     (λ c. search turn)
-    -- put-numbered-requires
+    -- put_numbered-requires
     (λ c κs. ((search turn, search turn, search turn), (search turn, search turn)))
-    -- same-length
+    -- shape_of-places
     (λ c. search turn)
-    -- returns-2
+    -- returns
     (λ c. search turn))

@@ -22,41 +22,41 @@ number_spec =
     (tie.spec
     invariant-loop-i
     decreases-loop-i
-    -- array-write-row
+    -- bounds-row-0
     (λ c. search turn)
-    -- mul-i
+    -- overflow_mul-i
     (λ c. search turn)
-    -- sub-i
+    -- overflow_sub-i
     (λ c. search turn)
-    -- loop-holds
+    -- loop-i-init
     (λ c. search turn)
-    -- sub-i-2
+    -- overflow_sub-i-in-loop-i
     (λ c. search turn)
-    -- shared-slice-read-if1
+    -- bounds-places-i
     (λ c. search turn)
-    -- sub-grow
+    -- overflow_sub-zeros
     (λ c. search turn)
-    -- slice-aggregate-grow
+    -- slice_bounds-grow-end
     (λ c. search turn)
     -- grow-requires
     (λ c κs. search turn)
-    -- add-zeros
+    -- overflow_add-zeros
     (λ c. search turn)
-    -- loop-less
+    -- loop-i-smaller-then-places-i-eq0
     (λ c. search turn)
-    -- loop-again
+    -- loop-i-preserved-then-places-i-eq0
     (λ c. search turn)
-    -- add-ones
+    -- overflow_add-ones
     (λ c. search turn)
-    -- mul-number
+    -- offset_bounds-row-ones
     (λ c. search turn)
-    -- array-read-number
+    -- bounds-row-ones
     (λ c. search turn)
-    -- add-number
+    -- overflow_add-number
     (λ c. search turn)
-    -- loop-less-2
+    -- loop-i-smaller
     (λ c. search turn)
-    -- loop-again-2
+    -- loop-i-preserved
     (λ c. search turn)
     -- returns
     (λ c. search turn))

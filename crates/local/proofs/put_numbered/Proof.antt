@@ -29,43 +29,43 @@ put_numbered_spec =
     (tie.spec
     invariant-loop-ones
     decreases-loop-ones
-    -- sub-i
+    -- overflow_sub-i
     (λ c. search turn)
-    -- sub-i-2
+    -- overflow_sub-i-2
     (λ c. search turn)
-    -- loop-holds
+    -- loop-ones-init
     (λ c. search turn)
-    -- mul-ways
+    -- offset_bounds-row-ones
     (λ c. search turn)
-    -- slice-read-ways
+    -- bounds-row-ones
     (λ c. search turn)
-    -- slice-write-places
+    -- bounds-places-i
     (λ c. search turn)
-    -- sub-zeros
+    -- overflow_sub-zeros
     (λ c. search turn)
     -- shrink-requires
     (λ c κs. search turn)
-    -- add-i
+    -- overflow_add-i
     (λ c. search turn)
-    -- loop-less
+    -- loop-ones-smaller-then-number-ways
     (λ c. search turn)
-    -- loop-again
+    -- loop-ones-preserved-then-number-ways
     (λ c. search turn)
-    -- slice-write-places-2
+    -- bounds-places-i-else-number-ways
     (λ c. search turn)
-    -- sub-ones
+    -- overflow_sub-ones
     (λ c. search turn)
-    -- add-i-2
+    -- overflow_add-i-else-number-ways
     (λ c. search turn)
-    -- loop-less-2
+    -- loop-ones-smaller
     (λ c. search turn)
-    -- loop-again-2
+    -- loop-ones-preserved
     (λ c. search turn)
     -- put-requires
     (λ c κs. search turn)
-    -- same-length
+    -- shape_of-places
     (λ c. search turn)
-    -- same-length-2
+    -- shape_of-row
     (λ c. search turn)
     -- returns
     (λ c. search turn))

@@ -12,17 +12,17 @@ pub shape_spec : {M : Type 1} → statement M
 shape_spec =
     tie.close
     (tie.spec
-    -- sub-fill
+    -- overflow_sub-size
     (λ c. search turn)
-    -- slice-aggregate-fill
+    -- slice_bounds-fill-end
     (λ c. search turn)
     -- fill-requires
     (λ c κs. search turn)
-    -- slice-aggregate-put-numbered
+    -- slice_bounds-put_numbered-end
     (λ c. search turn)
-    -- put-numbered-requires
+    -- put_numbered-requires
     (λ c κs. search turn)
-    -- same-length
+    -- shape_of-places
     (λ c. search turn)
     -- returns
     (λ c. search turn))

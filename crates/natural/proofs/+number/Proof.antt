@@ -60,63 +60,63 @@ pub +number_spec : {M : Type 1} → statement M
     (claims t)
     (number_at t)
     reads.Post
-    -- returns
+    -- returns-then-entries-lt2
     (λ c. search number_small)
-    -- shared-slice-read-root
+    -- bounds-entries-0
     (λ c. search rules)
-    -- sub-right
+    -- overflow_sub-right
     (λ c. omega (arith, root (rooted t c.before)))
-    -- cast-right
+    -- overflow_cast-right
     (λ c. omega (arith, root (rooted t c.before)))
-    -- sub-number
+    -- slice_bounds-number-count
     (λ c. search rules)
-    -- part-number-start
+    -- slice_bounds-number-start
     (λ c. search rules)
-    -- part-number-end
+    -- slice_bounds-number-end
     (λ c. search rules)
     -- number-requires
     (λ c κs. let h = rooted t c.before.before.before in (omega (arith, root h), (search rules, right_behind h c.before.if-right-eq1.true)))
-    -- returns-2
+    -- returns-then-right-eq1
     (λ c. right_alone (rooted t c.before.before.before.before) c.before.before.if-right-eq1.true c.number.ensures)
-    -- sub-fewer-left
+    -- overflow_sub-entries
     (λ c. search rules)
-    -- sub-fewer-left-2
+    -- overflow_sub-right-2
     (λ c. omega (arith, root (rooted t c.before.before)))
-    -- fewer-left-requires
+    -- fewer_left-fewer-requires
     (λ c κs. let x = root (rooted t c.before.before) in search rules)
-    -- sub-number-2
+    -- slice_bounds-number-count-2
     (λ c. omega (arith, root (rooted t c.before.before.before)))
-    -- part-number-start-2
+    -- slice_bounds-number-start-2
     (λ c. omega (arith, root (rooted t c.before.before.before)))
-    -- part-number-end-2
+    -- slice_bounds-number-end-2
     (λ c. omega (arith, root (rooted t c.before.before.before)))
-    -- number-requires-2
+    -- number-left_number-requires
     (λ c κs. let h = rooted t c.before.before.before.before in (omega (arith, root h), (search rules, left_part h)))
-    -- add-result
+    -- overflow_add-result
     (λ c. let h = rooted t c.before.before.before.before.before.before in omega (arith, left_whole t c, number_fits h.part))
-    -- returns-3
+    -- returns-then-right-entries
     (λ c. left_whole t c)
-    -- mul-number
+    -- offset_bounds-entries-right
     (λ c. omega (arith, root (rooted t c.before.before.before.before.before.before)))
-    -- sub-number-3
+    -- slice_bounds-number-count-3
     (λ c. omega (arith, root (rooted t c.before.before.before.before.before.before)))
-    -- part-number-start-3
+    -- slice_bounds-number-start-3
     (λ c. omega (arith, root (rooted t c.before.before.before.before.before.before)))
-    -- part-number-end-3
+    -- slice_bounds-number-end-3
     (λ c. search rules)
-    -- number-requires-3
+    -- number-right_number-requires
     (λ c κs. let h = rooted t c.before.before.before.before.before.before.before in (omega (arith, root h), (search rules, right_part h)))
-    -- sub-result
+    -- overflow_sub-result
     (λ c. omega (arith, root (rooted t c.before.before.before.before.before.before.before.before)))
-    -- mul-result
+    -- offset_bounds-catalans-entries
     (λ c. omega (arith, root (rooted t c.before.before.before.before.before.before.before.before)))
-    -- element-copy-out-result
+    -- bounds-catalans-entries
     (λ c. omega (arith, whole t c.before))
-    -- mul-result-2
+    -- overflow_mul-result
     (λ c. omega (arith, whole t c.before.before))
-    -- add-result-2
+    -- overflow_add-result-2
     (λ c. omega (arith, whole t c.before.before))
-    -- add-result-3
+    -- overflow_add-result-3
     (λ c. omega (arith, whole t c.before.before))
-    -- returns-4
+    -- returns
     (λ c. (whole t c.before.before).whole))

@@ -22,27 +22,27 @@ fewer_left_spec =
     (tie.spec
     invariant-loop-j
     decreases-loop-j
-    -- loop-holds
+    -- loop-j-init
     (λ c. search turn)
-    -- mul-fewer
+    -- offset_bounds-catalans-j
     (λ c. search turn)
-    -- element-copy-out-fewer
+    -- bounds-catalans-j
     (λ c. search turn)
-    -- sub-fewer
+    -- overflow_sub-fewer
     (λ c. search turn)
-    -- mul-fewer-2
+    -- offset_bounds-catalans-others
     (λ c. search turn)
-    -- element-copy-out-fewer-2
+    -- bounds-catalans-others
     (λ c. search turn)
-    -- mul-fewer-3
+    -- overflow_mul-fewer
     (λ c. search turn)
-    -- add-fewer
+    -- overflow_add-fewer
     (λ c. search turn)
-    -- add-j
+    -- overflow_add-j
     (λ c. search turn)
-    -- loop-less
+    -- loop-j-smaller
     (λ c. search turn)
-    -- loop-again
+    -- loop-j-preserved
     (λ c. search turn)
     -- returns
     (λ c. search turn))

@@ -38,39 +38,39 @@ left_nodes_spec =
     (tie.spec
     invariant-loop-left
     decreases-loop-left
-    -- mul-if1
+    -- offset_bounds-catalans-others
     (λ c. search turn)
-    -- element-copy-out-if1
+    -- bounds-catalans-others
+    (λ c. search turn)
+    -- returns-then-number-catalans
+    (λ c. search turn)
+    -- offset_bounds-catalans-others-2
+    (λ c. search turn)
+    -- bounds-catalans-others-2
+    (λ c. search turn)
+    -- overflow_sub-rest
+    (λ c. search turn)
+    -- loop-left-init
+    (λ c. search turn)
+    -- offset_bounds-catalans-left
+    (λ c. search turn)
+    -- bounds-catalans-left
+    (λ c. search turn)
+    -- overflow_sub-trees
+    (λ c. search turn)
+    -- offset_bounds-catalans-others-in-loop-left
+    (λ c. search turn)
+    -- bounds-catalans-others-in-loop-left
+    (λ c. search turn)
+    -- overflow_mul-trees
+    (λ c. search turn)
+    -- returns-then-rest-trees
+    (λ c. search turn)
+    -- overflow_add-left
+    (λ c. search turn)
+    -- loop-left-smaller
+    (λ c. search turn)
+    -- loop-left-preserved
     (λ c. search turn)
     -- returns
-    (λ c. search turn)
-    -- mul-rest
-    (λ c. search turn)
-    -- element-copy-out-rest
-    (λ c. search turn)
-    -- sub-rest
-    (λ c. search turn)
-    -- loop-holds
-    (λ c. search turn)
-    -- mul-trees
-    (λ c. search turn)
-    -- element-copy-out-trees
-    (λ c. search turn)
-    -- sub-trees
-    (λ c. search turn)
-    -- mul-trees-2
-    (λ c. search turn)
-    -- element-copy-out-trees-2
-    (λ c. search turn)
-    -- mul-trees-3
-    (λ c. search turn)
-    -- returns-2
-    (λ c. search turn)
-    -- add-left
-    (λ c. search turn)
-    -- loop-less
-    (λ c. search turn)
-    -- loop-again
-    (λ c. search turn)
-    -- returns-3
     (λ c. search turn))

@@ -55,99 +55,99 @@ shape_spec =
     (tie.spec
     invariant-loop-i
     decreases-loop-i
-    -- loop-holds
+    -- loop-i-init
     (λ c. search turn)
-    -- mul-base
+    -- offset_bounds-entries-i
     (λ c. search turn)
-    -- slice-read-base
+    -- bounds-entries-i
     (λ c. search turn)
-    -- array-read-count
+    -- bounds-counts-i
     (λ c. search turn)
-    -- cast-count
+    -- overflow_cast-count
     (λ c. search turn)
-    -- mul-number
+    -- offset_bounds-numbers-i
     (λ c. search turn)
-    -- array-read-number
+    -- bounds-numbers-i
     (λ c. search turn)
-    -- loop-less
+    -- loop-i-smaller-then-count-eq0
     (λ c. search turn)
-    -- loop-again
+    -- loop-i-preserved-then-count-eq0
     (λ c. search turn)
-    -- sub-if2
+    -- overflow_sub-count
     (λ c. search turn)
-    -- mul-if2
+    -- offset_bounds-catalans-count
     (λ c. search turn)
-    -- element-copy-out-if2
+    -- bounds-catalans-count
     (λ c. search turn)
-    -- add-base
+    -- overflow_add-base
     (λ c. search turn)
-    -- mul-entries
+    -- offset_bounds-entries-i-then-number-catalans
     (λ c. search turn)
-    -- slice-write-entries
+    -- bounds-entries-i-then-number-catalans
     (λ c. search turn)
-    -- sub-count
+    -- overflow_sub-count-then-number-catalans
     (λ c. search turn)
-    -- add-i
+    -- overflow_add-i
     (λ c. search turn)
-    -- loop-less-2
+    -- loop-i-smaller-then-number-catalans
     (λ c. search turn)
-    -- loop-again-2
+    -- loop-i-preserved-then-number-catalans
     (λ c. search turn)
-    -- sub-left-nodes
+    -- overflow_sub-count-else-number-catalans
     (λ c. search turn)
-    -- left-nodes-requires
+    -- left_nodes-split-requires
     (λ c κs. search turn)
-    -- sub-right
+    -- overflow_sub-right
     (λ c. search turn)
-    -- sub-right-2
+    -- overflow_sub-right-else-number-catalans
     (λ c. search turn)
-    -- cast-root
+    -- overflow_cast-root
     (λ c. search root_cast)
-    -- add-root
+    -- overflow_add-root
     (λ c. search turn)
-    -- add-root-2
+    -- overflow_add-root-else-number-catalans
     (λ c. search turn)
-    -- mul-entries-2
+    -- offset_bounds-entries-i-else-number-catalans
     (λ c. search turn)
-    -- slice-write-entries-2
+    -- bounds-entries-i-else-number-catalans
     (λ c. search turn)
-    -- add-i-2
+    -- overflow_add-i-else-number-catalans
     (λ c. search turn)
-    -- loop-less-3
+    -- loop-i-smaller-then-right-eq0
     (λ c. search turn)
-    -- loop-again-3
+    -- loop-i-preserved-then-right-eq0
     (λ c. search turn)
-    -- mul-rights
+    -- offset_bounds-catalans-right
     (λ c. search turn)
-    -- element-copy-out-rights
+    -- bounds-catalans-right
     (λ c. search turn)
-    -- add-entries
+    -- overflow_add-entries
     (λ c. search turn)
-    -- mul-entries-3
+    -- offset_bounds-entries-i-else-right-eq0
     (λ c. search turn)
-    -- slice-write-entries-3
+    -- bounds-entries-i-else-right-eq0
     (λ c. search turn)
-    -- cast-counts
+    -- overflow_cast-counts
     (λ c. search turn)
-    -- add-counts
+    -- overflow_add-counts
     (λ c. search turn)
-    -- array-write-counts
+    -- bounds-counts-i-else-right-eq0
     (λ c. search turn)
-    -- rem-numbers
+    -- nonzero_rem-numbers
     (λ c. search turn)
-    -- add-numbers
+    -- overflow_add-numbers
     (λ c. search turn)
-    -- mul-numbers
+    -- offset_bounds-numbers-i-else-right-eq0
     (λ c. search turn)
-    -- array-write-numbers
+    -- bounds-numbers-i-else-right-eq0
     (λ c. search turn)
-    -- div-number
+    -- nonzero_div-number
     (λ c. search turn)
-    -- loop-less-4
+    -- loop-i-smaller
     (λ c. search turn)
-    -- loop-again-4
+    -- loop-i-preserved
     (λ c. (search turn, search turn))
-    -- same-length
+    -- shape_of-entries
     (λ c. search turn)
     -- returns
     (λ c. search turn))

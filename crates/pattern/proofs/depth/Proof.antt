@@ -12,13 +12,13 @@ depth_spec =
     (tie.spec
     -- check-requires
     (λ c κs. search answers)
-    -- enum-known-refusal
+    -- enum_known-refusal
     (λ c. search answers)
-    -- enum-told
+    -- enum_told-1
     (λ c. search answers)
     -- depth-requires
     (λ c κs. search answers)
-    -- returns
+    -- returns-in-Refused
     (λ c. search answers)
-    -- returns-2
+    -- returns-in-Done
     (λ c. search answers))

@@ -12,17 +12,17 @@ head_spec =
     (tie.spec
     -- check-requires
     (λ c κs. search answers)
-    -- enum-told
+    -- enum_told-1
     (λ c. search answers)
-    -- slice-aggregate-result
+    -- slice_bounds-result-end
     (λ c. search answers)
-    -- enum-told-2
+    -- enum_told-in-Done
     (λ c. search answers)
-    -- head-length-requires
+    -- head_length-end-requires
     (λ c κs. search answers)
-    -- slice-aggregate-result-2
+    -- slice_bounds-result-end-in-Done
     (λ c. search answers)
-    -- returns
+    -- returns-in-Refused
     (λ c. search answers)
-    -- returns-2
+    -- returns-in-Done
     (λ c. search answers))

@@ -12,27 +12,27 @@ later_spec =
     (tie.spec
     -- check-requires
     (λ c κs. search answers)
-    -- enum-told
+    -- enum_told-1
     (λ c. search answers)
-    -- slice-aggregate-result
+    -- slice_bounds-result-end
     (λ c. search answers)
-    -- enum-told-2
+    -- enum_told-in-Done
     (λ c. search answers)
-    -- check-requires-2
+    -- check-requires-in-Done
     (λ c κs. search answers)
-    -- enum-told-3
+    -- enum_told-in-Refused-check
     (λ c. search answers)
-    -- slice-aggregate-result-2
+    -- slice_bounds-result-end-in-Refused-check
     (λ c. search answers)
-    -- enum-told-4
+    -- enum_told-in-Done-check
     (λ c. search answers)
     -- before-requires
     (λ c κs. search answers)
-    -- returns
+    -- returns-then-before
     (λ c. search answers)
-    -- returns-2
+    -- returns-in-Refused
     (λ c. search answers)
-    -- returns-3
+    -- returns-in-Refused-check
     (λ c. search answers)
-    -- returns-4
+    -- returns-else-before
     (λ c. search answers))

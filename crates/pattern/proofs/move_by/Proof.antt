@@ -17,23 +17,23 @@ move_by_spec =
     (tie.spec
     -- check-requires
     (λ c κs. search moves)
-    -- enum-known-refusal
+    -- enum_known-refusal
     (λ c. search moves)
-    -- enum-told
+    -- enum_told-1
     (λ c. search moves)
-    -- move-by-requires
+    -- move_by-requires
     (λ c κs. search moves)
-    -- same-length
+    -- shape_of-places-then-move_by
     (λ c. search moves)
-    -- returns
+    -- returns-then-move_by
     (λ c. search moves)
-    -- end-past-requires
+    -- end_past-requires
     (λ c κs. search moves)
-    -- same-length-2
+    -- shape_of-places-in-Refused
     (λ c. search moves)
-    -- returns-2
+    -- returns-in-Refused
     (λ c. search moves)
-    -- same-length-3
+    -- shape_of-places-else-move_by
     (λ c. search moves)
-    -- returns-3
+    -- returns-else-move_by
     (λ c. search moves))

@@ -12,19 +12,19 @@ shape_spec =
     (tie.spec
     -- room-requires
     (λ c κs. search answers)
-    -- enum-known-refusal
+    -- enum_known-refusal
     (λ c. search answers)
-    -- enum-told
+    -- enum_told-1
     (λ c. search answers)
     -- catalan-requires
     (λ c κs. search answers)
-    -- returns
+    -- returns-then-number-catalan
     (λ c. search answers)
     -- shape-requires
     (λ c κs. search answers)
-    -- returns-2
+    -- returns-in-Refused
     (λ c. search answers)
-    -- same-length
+    -- shape_of-places
     (λ c. search answers)
-    -- returns-3
+    -- returns-else-number-catalan
     (λ c. search answers))

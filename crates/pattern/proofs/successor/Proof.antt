@@ -15,21 +15,21 @@ successor_spec =
     (tie.spec
     -- check-requires
     (λ c κs. search answers)
-    -- enum-known-refusal
+    -- enum_known-refusal
     (λ c. search answers)
-    -- enum-told
+    -- enum_told-1
     (λ c. search answers)
-    -- next-requires
+    -- next-change-requires
     (λ c κs. search answers)
-    -- same-length
+    -- shape_of-places-then-change-eq0
     (λ c. search answers)
-    -- returns
+    -- returns-then-change-eq0
     (λ c. search answers)
-    -- same-length-2
+    -- shape_of-places-in-Refused
     (λ c. search answers)
-    -- returns-2
+    -- returns-in-Refused
     (λ c. search answers)
-    -- same-length-3
+    -- shape_of-places-else-change-eq0
     (λ c. search answers)
-    -- returns-3
+    -- returns-else-change-eq0
     (λ c. search answers))

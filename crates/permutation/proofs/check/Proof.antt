@@ -10,13 +10,13 @@ check_spec =
     (tie.spec
     -- room-requires
     (λ c κs. search answers)
-    -- enum-known-refusal
+    -- enum_known-refusal
     (λ c. search answers)
-    -- enum-told
+    -- enum_told-1
     (λ c. search answers)
     -- contents-requires
     (λ c κs. search answers)
-    -- returns
+    -- returns-in-Refused
     (λ c. search answers)
-    -- returns-2
+    -- returns-in-Done
     (λ c. search answers))

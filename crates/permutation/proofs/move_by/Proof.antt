@@ -26,35 +26,35 @@ move_by_spec =
     (tie.spec
     -- check-requires
     (λ c κs. search moves)
-    -- enum-known-refusal
+    -- enum_known-refusal
     (λ c. search moves)
-    -- enum-told
+    -- enum_told-1
     (λ c. search moves)
-    -- table-requires
+    -- table-catalans-requires
     (λ c κs. search moves)
-    -- number-requires
+    -- number-number-requires
     (λ c κs. search moves)
     -- added-requires
     (λ c κs. search moves)
-    -- wrapping-add-u64-requires
+    -- wrapping_add_u64-target-requires
     (λ c κs. search moves)
-    -- mul-if1
+    -- offset_bounds-catalans-size
     (λ c. search moves)
-    -- array-read-if1
+    -- bounds-catalans-size
     (λ c. search moves)
     -- shape-requires
     (λ c κs. (search moves, search moves, search moves))
-    -- same-length
+    -- shape_of-entries-then-target-catalans
     (λ c. search moves)
-    -- returns
+    -- returns-then-target-catalans
     (λ c. search moves)
-    -- end-past-requires
+    -- end_past-requires
     (λ c κs. search moves)
-    -- same-length-2
+    -- shape_of-entries-in-Refused
     (λ c. search moves)
-    -- returns-2
+    -- returns-in-Refused
     (λ c. search moves)
-    -- same-length-3
+    -- shape_of-entries-else-target-catalans
     (λ c. search moves)
-    -- returns-3
+    -- returns-else-target-catalans
     (λ c. search moves))

@@ -13,21 +13,21 @@ predecessor_spec =
     (tie.spec
     -- check-requires
     (λ c κs. search answers)
-    -- enum-known-refusal
+    -- enum_known-refusal
     (λ c. search answers)
-    -- enum-told
+    -- enum_told-1
     (λ c. search answers)
     -- previous-requires
     (λ c κs. search answers)
-    -- same-length
+    -- shape_of-entries-then-previous
     (λ c. search answers)
-    -- returns
+    -- returns-then-previous
     (λ c. search answers)
-    -- same-length-2
+    -- shape_of-entries-in-Refused
     (λ c. search answers)
-    -- returns-2
+    -- returns-in-Refused
     (λ c. search answers)
-    -- same-length-3
+    -- shape_of-entries-else-previous
     (λ c. search answers)
-    -- returns-3
+    -- returns-else-previous
     (λ c. search answers))

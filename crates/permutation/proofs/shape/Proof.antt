@@ -12,23 +12,23 @@ shape_spec =
     (tie.spec
     -- room-requires
     (λ c κs. search answers)
-    -- enum-known-refusal
+    -- enum_known-refusal
     (λ c. search answers)
-    -- enum-told
+    -- enum_told-1
     (λ c. search answers)
-    -- table-requires
+    -- table-catalans-requires
     (λ c κs. search answers)
-    -- mul-if1
+    -- offset_bounds-catalans-size
     (λ c. search answers)
-    -- array-read-if1
+    -- bounds-catalans-size
     (λ c. search answers)
-    -- returns
+    -- returns-then-number-catalans
     (λ c. search answers)
     -- shape-requires
     (λ c κs. search answers)
-    -- returns-2
+    -- returns-in-Refused
     (λ c. search answers)
-    -- same-length
+    -- shape_of-entries
     (λ c. search answers)
-    -- returns-3
+    -- returns-else-number-catalans
     (λ c. search answers))

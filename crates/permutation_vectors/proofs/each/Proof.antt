@@ -16,31 +16,31 @@ each_spec =
     (tie.spec
     invariant-loop-start
     decreases-loop-start
-    -- loop-holds
+    -- loop-start-init
     (λ c. search rules)
-    -- end-of-requires
+    -- end_of-end-requires
     (λ c κs. search rules)
-    -- sub-line
+    -- slice_bounds-line-count
     (λ c. search rules)
-    -- part-line-start
+    -- slice_bounds-line-start
     (λ c. search rules)
-    -- part-line-end
+    -- slice_bounds-line-end
     (λ c. search rules)
     -- line-requires
     (λ c κs. search rules)
-    -- end-line-requires
+    -- end_line-requires
     (λ c κs. search rules)
-    -- same-length
+    -- shape_of-held-then-end-text
+    (λ c. search rules)
+    -- returns-then-end-text
+    (λ c. search rules)
+    -- overflow_add-start
+    (λ c. search rules)
+    -- loop-start-smaller
+    (λ c. search rules)
+    -- loop-start-preserved
+    (λ c. search rules)
+    -- shape_of-held
     (λ c. search rules)
     -- returns
-    (λ c. search rules)
-    -- add-start
-    (λ c. search rules)
-    -- loop-less
-    (λ c. search rules)
-    -- loop-again
-    (λ c. search rules)
-    -- same-length-2
-    (λ c. search rules)
-    -- returns-2
     (λ c. search rules))

@@ -13,31 +13,31 @@ read_spec =
     (tie.spec
     -- check-requires
     (λ c κs. search answers)
-    -- enum-known-refusal
+    -- enum_known-refusal
     (λ c. search answers)
-    -- enum-told
+    -- enum_told-1
     (λ c. search answers)
-    -- shared-slice-read-size
+    -- bounds-bytes-0
     (λ c. search answers)
-    -- cast-size
+    -- overflow_cast-size
     (λ c. omega (arith, c.shared_slice_known-in-Done-1.given 0))
-    -- mul-if1
+    -- overflow_mul-size
     (λ c. omega (arith, c.shared_slice_known-in-Done-1.given 0))
-    -- returns
+    -- returns-then-places-size
     (λ c. search answers)
-    -- mul-read-places
+    -- overflow_mul-size-in-Done
     (λ c. search answers)
-    -- sub-read-places
+    -- slice_bounds-read_places-count
     (λ c. search answers)
-    -- part-unpacked-start
+    -- slice_bounds-unpacked-start
     (λ c. search answers)
-    -- part-unpacked-end
+    -- slice_bounds-unpacked-end
     (λ c. search answers)
-    -- read-places-requires
+    -- read_places-requires
     (λ c κs. search answers)
-    -- returns-2
+    -- returns-in-Refused
     (λ c. search answers)
-    -- same-length
+    -- shape_of-places
     (λ c. search answers)
-    -- returns-3
+    -- returns-else-places-size
     (λ c. search answers))

@@ -14,19 +14,19 @@ read_places_spec =
     (λ c κs. search answers)
     -- check-requires
     (λ c κs. search answers)
-    -- enum-told
+    -- enum_told-1
     (λ c. search answers)
-    -- enum-told-2
+    -- enum_told-in-Done
     (λ c. search answers)
     -- copy-requires
     (λ c κs. search answers)
-    -- same-length
+    -- shape_of-unpacked-in-Refused
     (λ c. search answers)
-    -- returns
+    -- returns-in-Refused
     (λ c. search answers)
-    -- same-length-2
+    -- shape_of-unpacked-in-Done
     (λ c. search answers)
-    -- same-length-3
+    -- shape_of-places
     (λ c. search answers)
-    -- returns-2
+    -- returns-in-Done
     (λ c. search answers))

@@ -13,23 +13,23 @@ write_spec =
     (tie.spec
     -- room-requires
     (λ c κs. search answers)
-    -- enum-known-refusal
+    -- enum_known-refusal
     (λ c. search answers)
-    -- enum-told
+    -- enum_told-1
     (λ c. search answers)
     -- check-requires
     (λ c κs. search answers)
-    -- enum-known-refusal-2
+    -- enum_known-refusal-in-Refused-check
     (λ c. search answers)
-    -- enum-told-2
+    -- enum_told-in-Done-check
     (λ c. search answers)
     -- pack-requires
     (λ c κs. search answers)
-    -- returns
+    -- returns-in-Refused
     (λ c. search answers)
-    -- returns-2
+    -- returns-in-Refused-check
     (λ c. search answers)
-    -- same-length
+    -- shape_of-bytes
     (λ c. search answers)
-    -- returns-3
+    -- returns-in-Done-check
     (λ c. search answers))

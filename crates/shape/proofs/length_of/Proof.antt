@@ -11,21 +11,21 @@ pub length_of_spec : {M : Type 1} → statement M
 length_of_spec =
     tie.close
     (tie.spec
-    -- enum-told
+    -- enum_told-1
     (λ c. search asked)
-    -- mul-result
+    -- overflow_mul-result
     (λ c. search asked)
-    -- enum-told-2
+    -- enum_told-in-Permutation
     (λ c. search asked)
-    -- enum-told-3
+    -- enum_told-in-Record
     (λ c. search asked)
-    -- add-result
+    -- overflow_add-result
     (λ c. search asked)
-    -- add-result-2
+    -- overflow_add-result-in-Record
     (λ c. search asked)
-    -- returns
+    -- returns-in-Pattern
     (λ c. search asked)
-    -- returns-2
+    -- returns-in-Permutation
     (λ c. search asked)
-    -- returns-3
+    -- returns-in-Record
     (λ c. search asked))

@@ -11,13 +11,13 @@ pub room_spec : {M : Type 1} → statement M
 room_spec =
     tie.close
     (tie.spec
-    -- returns
+    -- returns-then-size-eq0
     (λ c. search asked)
-    -- returns-2
+    -- returns-then-size-gt35
     (λ c. search asked)
-    -- length-of-requires
+    -- length_of-requires
     (λ c κs. search asked)
-    -- returns-3
+    -- returns-then-length-length_of
     (λ c. search asked)
-    -- returns-4
+    -- returns
     (λ c. search asked))

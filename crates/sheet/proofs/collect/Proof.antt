@@ -21,31 +21,31 @@ collect_spec =
     (tie.spec
     invariant-loop-buffer
     decreases-loop-buffer
-    -- loop-holds
+    -- loop-buffer-init
     (λ c. search turn)
-    -- sub-loop
+    -- overflow_sub-buffer
     (λ c. search turn)
-    -- sub-fill
+    -- slice_bounds-fill-count
     (λ c. search rules)
-    -- part-fill-start
+    -- slice_bounds-fill-start
     (λ c. search rules)
-    -- part-fill-end
+    -- slice_bounds-fill-end
     (λ c. search rules)
-    -- fill-requires
+    -- fill-filled-requires
     (λ c κs. search rules)
-    -- bytes-of-requires
+    -- bytes_of-bytes-requires
     (λ c κs. search rules)
-    -- same-length
+    -- shape_of-buffer-then-bytes-eq0
+    (λ c. search rules)
+    -- returns-then-bytes-eq0
+    (λ c. search turn)
+    -- overflow_add-at
+    (λ c. search turn)
+    -- loop-buffer-smaller
+    (λ c. search turn)
+    -- loop-buffer-preserved
+    (λ c. search turn)
+    -- shape_of-buffer
     (λ c. search rules)
     -- returns
-    (λ c. search turn)
-    -- add-at
-    (λ c. search turn)
-    -- loop-less
-    (λ c. search turn)
-    -- loop-again
-    (λ c. search turn)
-    -- same-length-2
-    (λ c. search rules)
-    -- returns-2
     (λ c. search turn))

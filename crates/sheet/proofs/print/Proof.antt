@@ -18,28 +18,28 @@ print_spec =
     (tie.spec
     invariant-loop-buffer
     decreases-loop-buffer
-    -- large-buffer-requires
+    -- large_buffer-space-requires
     (λ c κs. search rules)
-    -- slice-aggregate-buffer
+    -- slice_bounds-buffer-end
     (λ c. search rules)
-    -- loop-holds
+    -- loop-buffer-init
     (λ c. search rules)
-    -- collect-requires
+    -- collect-batch-requires
     (λ c κs. search rules)
-    -- returns
+    -- returns-then-bytes-eq0
     (λ c. search rules)
-    -- sub-write-all
+    -- slice_bounds-write_all-count
     (λ c. search rules)
-    -- part-write-all-start
+    -- slice_bounds-write_all-start
     (λ c. search rules)
-    -- part-write-all-end
+    -- slice_bounds-write_all-end
     (λ c. search rules)
-    -- write-all-requires
+    -- write_all-requires
     (λ c κs. search rules)
-    -- returns-2
+    -- returns-then-not-write_all
     (λ c. search rules)
-    -- loop-less
+    -- loop-buffer-smaller
     (λ c.
     c.collect-batch.ensures.1.0 (omega (arith, c.if-bytes-eq0.false)))
-    -- loop-again
+    -- loop-buffer-preserved
     (λ c. search rules))

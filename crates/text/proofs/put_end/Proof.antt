@@ -9,15 +9,15 @@ pub put_end_spec : {M : Type 1} → statement M
 put_end_spec =
     tie.close
     (tie.spec
-    -- put-text-requires
+    -- put_text-at-requires
     (λ c κs. search rules)
-    -- put-number-requires
+    -- put_number-at-requires
     (λ c κs. search rules)
-    -- put-number-requires-2
+    -- put_number-requires
     (λ c κs.
     figure_within c.args.out.now c.requires _ c.ranges.count _ _ _ c.ranges.figure _ _
     c.put_number-at.ensures c.put_text-at.ensures)
-    -- same-length
+    -- shape_of-out
     (λ c. search rules)
     -- returns
     (λ c.

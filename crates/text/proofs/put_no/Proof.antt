@@ -9,11 +9,11 @@ pub put_no_spec : {M : Type 1} → statement M
 put_no_spec =
     tie.close
     (tie.spec
-    -- put-text-requires
+    -- put_text-at-requires
     (λ c κs. search rules)
-    -- put-number-requires
+    -- put_number-requires
     (λ c κs. search rules)
-    -- same-length
+    -- shape_of-out
     (λ c. search rules)
     -- returns
     (λ c.

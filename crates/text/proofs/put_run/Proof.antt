@@ -9,19 +9,19 @@ pub put_run_spec : {M : Type 1} → statement M
 put_run_spec =
     tie.close
     (tie.spec
-    -- put-text-requires
+    -- put_text-at-requires
     (λ c κs. search rules)
-    -- put-number-requires
+    -- put_number-at-requires
     (λ c κs. search rules)
-    -- put-number-requires-2
+    -- put_number-at-requires-2
     (λ c κs.
     first_within c.args.out.now c.requires _ c.ranges.size _ _ _ c.ranges.first _ _
     c.put_number-at.ensures _ c.ranges.end c.put_text-at.ensures)
-    -- put-number-requires-3
+    -- put_number-requires
     (λ c κs.
     end_within c.args.out.now c.requires _ c.ranges.size _ _ _ c.ranges.first _ _
     c.put_number-at.ensures _ c.ranges.end c.put_text-at.ensures _ _ c.put_number-at-2.ensures)
-    -- same-length
+    -- shape_of-out
     (λ c. search rules)
     -- returns
     (λ c.

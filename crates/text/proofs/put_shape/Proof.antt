@@ -9,9 +9,9 @@ pub put_shape_spec : {M : Type 1} → statement M
 put_shape_spec =
     tie.close
     (tie.spec
-    -- put-text-requires
+    -- put_text-at-requires
     (λ c κs. search rules)
-    -- put-bits-requires
+    -- put_bits-at-requires
     (λ c κs.
     let number = c.before.before.before in
     let start = number.before.before.before.before.before.before in (
@@ -19,7 +19,7 @@ put_shape_spec =
           start.requires _ _ number.put_text-at.ensures,
       start.requires.1.1.0,
     ))
-    -- put-entries-requires
+    -- put_entries-at-requires
     (λ c κs.
     let places = c.before.before.before in
     let number = places.before.before.before.before in
@@ -29,7 +29,7 @@ put_shape_spec =
           start.requires _ _ number.put_text-at.ensures _ _ places.put_bits-at.ensures,
       start.requires.1.1.1,
     ))
-    -- put-small-requires
+    -- put_small-at-requires
     (λ c κs.
     let entries = c.before.before.before in
     let places = entries.before.before.before.before in
@@ -39,7 +39,7 @@ put_shape_spec =
       depth_within _ _ start.args.digits.now start.args.places.now start.args.entries.now _ _
           start.requires _ _ number.put_text-at.ensures _ _ places.put_bits-at.ensures _ _ entries.put_entries-at.ensures,
     ))
-    -- put-small-requires-2
+    -- put_small-requires
     (λ c κs.
     let depth = c.before.before.before in
     let entries = depth.before.before.before.before in
@@ -51,7 +51,7 @@ put_shape_spec =
           start.requires _ _ number.put_text-at.ensures _ _ places.put_bits-at.ensures _ _ entries.put_entries-at.ensures
           _ _ depth.put_small-at.ensures,
     ))
-    -- same-length
+    -- shape_of-out
     (λ c. search rules)
     -- returns
     (λ c.

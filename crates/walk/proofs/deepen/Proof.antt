@@ -26,27 +26,27 @@ deepen_spec =
     (tie.spec
     invariant-loop-i
     decreases-loop-i
-    -- sub-larger
+    -- overflow_sub-from
     (λ c. search turn)
-    -- slice-read-larger
+    -- bounds-depths-from
     (λ c. search turn)
-    -- cast-larger
+    -- overflow_cast-excess
     (λ c. search turn)
-    -- add-larger
+    -- overflow_add-excess
     (λ c. search turn)
-    -- larger-requires
+    -- larger-depth-requires
     (λ c κs. search turn)
-    -- loop-holds
+    -- loop-i-init
     (λ c. search turn)
-    -- slice-write-depths
+    -- bounds-depths-i
     (λ c. search turn)
-    -- add-i
+    -- overflow_add-i
     (λ c. search turn)
-    -- loop-less
+    -- loop-i-smaller
     (λ c. search turn)
-    -- loop-again
+    -- loop-i-preserved
     (λ c. search turn)
-    -- same-length
+    -- shape_of-depths
     (λ c. search turn)
     -- returns
     (λ c. search turn))

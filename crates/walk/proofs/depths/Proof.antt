@@ -20,35 +20,35 @@ depths_spec =
     (tie.spec
     invariant-loop-i
     decreases-loop-i
-    -- slice-write-depths
+    -- bounds-depths-0
     (λ c. search turn)
-    -- loop-holds
+    -- loop-i-init
     (λ c. search turn)
-    -- mul-loop
+    -- overflow_mul-size
     (λ c. search turn)
-    -- shared-slice-read-excess
+    -- bounds-places-i
     (λ c. search turn)
-    -- mul-excess
+    -- overflow_mul-excess
     (λ c. search turn)
-    -- add-excess
+    -- overflow_add-excess
     (λ c. search turn)
-    -- sub-excess
+    -- overflow_sub-excess
     (λ c. search turn)
-    -- slice-read-larger
+    -- bounds-depths-i
     (λ c. search turn)
     -- larger-requires
     (λ c κs. search turn)
-    -- add-depths
+    -- overflow_add-depths
     (λ c. search turn)
-    -- slice-write-depths-2
+    -- bounds-depths-i-in-loop-i
     (λ c. search turn)
-    -- add-i
+    -- overflow_add-i
     (λ c. search turn)
-    -- loop-less
+    -- loop-i-smaller
     (λ c. search turn)
-    -- loop-again
+    -- loop-i-preserved
     (λ c. search turn)
-    -- same-length
+    -- shape_of-depths
     (λ c. search turn)
     -- returns
     (λ c. search turn))

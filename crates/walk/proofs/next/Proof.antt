@@ -24,59 +24,59 @@ pub next_spec : {M : Type 1} → statement M
 next_spec =
     tie.close
     (tie.spec
-    -- last-block-requires
+    -- last_block-block-requires
     (λ c κs. search turn)
-    -- same-length
+    -- shape_of-places-then-block-eq0
     (λ c. search turn)
-    -- returns
+    -- returns-then-block-eq0
     (λ c. (search turn, (search turn, (search last_entries, search last_depths))))
-    -- sub-others
+    -- overflow_sub-others
     (λ c. omega (arith, known c.before))
-    -- sub-others-2
+    -- overflow_sub-others-2
     (λ c. omega (arith, known c.before))
-    -- sub-kept
+    -- overflow_sub-kept
     (λ c. omega (arith, known c.before.before))
-    -- sub-kept-2
+    -- overflow_sub-kept-2
     (λ c. omega (arith, known c.before.before))
-    -- sub-first
+    -- overflow_sub-first
     (λ c. omega (arith, known c.before.before))
-    -- sub-first-2
+    -- overflow_sub-first-2
     (λ c. omega (arith, known c.before.before))
-    -- cast-relabel
+    -- overflow_cast-kept
     (λ c. omega (arith, known c.before.before.before))
-    -- cast-relabel-2
+    -- overflow_cast-others
     (λ c. omega (arith, known c.before.before.before))
     -- relabel-requires
     (λ c κs. omega (arith, known c.before.before.before))
-    -- cast-entries
+    -- overflow_cast-entries
     (λ c. omega (arith, known c.before.before.before.before.before.before))
-    -- add-entries
+    -- overflow_add-entries
     (λ c. omega (arith, known c.before.before.before.before.before.before))
-    -- mul-entries
+    -- offset_bounds-entries-first
     (λ c. search turn)
-    -- slice-write-entries
+    -- bounds-entries-first
     (λ c. omega (arith, known c.before.before.before.before.before.before, c.relabel.auto.entries))
-    -- add-put-rising
+    -- overflow_add-first
     (λ c. search turn)
-    -- put-rising-requires
+    -- put_rising-requires
     (λ c κs.
     let k = known c.before.before.before.before.before.before.before in
     let relabel = c.relabel in
     written_room _ _ _ relabel.new.entries k.0.front (omega (arith, k.1, relabel.auto.entries)) (omega arith))
-    -- sub-deepen
+    -- overflow_sub-first-3
     (λ c. omega (arith, known c.before.before.before.before.before.before.before.before.before.before.before))
     -- deepen-requires
     (λ c κs.
     let k = known c.before.before.before.before.before.before.before.before.before.before.before in
     deepened_room _ _ _ _ _ k.0.inside k.0.within k.0.front k.2 (omega arith))
-    -- move-block-requires
+    -- move_block-requires
     (λ c κs. search turn)
-    -- same-length-2
+    -- shape_of-places
     (λ c. search turn)
-    -- same-length-3
+    -- shape_of-entries
     (λ c.
     omega (arith, c.relabel.auto.entries, simp length-set at c.put_rising.auto.entries))
-    -- same-length-4
+    -- shape_of-depths
     (λ c. search turn)
-    -- returns-2
+    -- returns
     (λ c. (search turn, (search turn, (search moved_entries, search moved_depths)))))

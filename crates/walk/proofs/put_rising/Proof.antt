@@ -27,23 +27,23 @@ put_rising_spec =
     (tie.spec
     invariant-loop-i
     decreases-loop-i
-    -- loop-holds
+    -- loop-i-init
     (λ c. search turn)
-    -- cast-entries
+    -- overflow_cast-entries
     (λ c. search turn)
-    -- add-entries
+    -- overflow_add-entries
     (λ c. search turn)
-    -- mul-entries
+    -- offset_bounds-entries-i
     (λ c. search turn)
-    -- slice-write-entries
+    -- bounds-entries-i
     (λ c. search turn)
-    -- add-i
+    -- overflow_add-i
     (λ c. search turn)
-    -- loop-less
+    -- loop-i-smaller
     (λ c. search turn)
-    -- loop-again
+    -- loop-i-preserved
     (λ c. search turn)
-    -- same-length
+    -- shape_of-entries
     (λ c. search turn)
     -- returns
     (λ c. search turn))

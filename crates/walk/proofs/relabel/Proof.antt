@@ -27,25 +27,25 @@ relabel_spec =
     (tie.spec
     invariant-loop-i
     decreases-loop-i
-    -- loop-holds
+    -- loop-i-init
     (λ c. search turn)
-    -- mul-relabelled
+    -- offset_bounds-entries-i
     (λ c. search turn)
-    -- slice-read-relabelled
+    -- bounds-entries-i
     (λ c. search turn)
     -- relabelled-requires
     (λ c κs. search turn)
-    -- mul-entries
+    -- offset_bounds-entries-i-in-loop-i
     (λ c. search turn)
-    -- slice-write-entries
+    -- bounds-entries-i-in-loop-i
     (λ c. search turn)
-    -- add-i
+    -- overflow_add-i
     (λ c. search turn)
-    -- loop-less
+    -- loop-i-smaller
     (λ c. search turn)
-    -- loop-again
+    -- loop-i-preserved
     (λ c. search turn)
-    -- same-length
+    -- shape_of-entries
     (λ c. search turn)
     -- returns
     (λ c. search turn))

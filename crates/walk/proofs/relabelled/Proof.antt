@@ -11,17 +11,17 @@ pub relabelled_spec : {M : Type 1} → statement M
 relabelled_spec =
     tie.close
     (tie.spec
+    -- returns-then-label-kept
+    (λ c. search turn)
+    -- overflow_add-kept
+    (λ c. search turn)
+    -- overflow_add-kept-2
+    (λ c. search turn)
+    -- overflow_add-result
+    (λ c. search turn)
+    -- returns-then-label-kept-2
+    (λ c. search turn)
+    -- overflow_sub-result
+    (λ c. search turn)
     -- returns
-    (λ c. search turn)
-    -- add-if2
-    (λ c. search turn)
-    -- add-if2-2
-    (λ c. search turn)
-    -- add-result
-    (λ c. search turn)
-    -- returns-2
-    (λ c. search turn)
-    -- sub-result
-    (λ c. search turn)
-    -- returns-3
     (λ c. search turn))

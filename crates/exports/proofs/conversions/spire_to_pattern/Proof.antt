@@ -8,11 +8,11 @@ pub spire_to_pattern_spec : {M : Type 1} → statement M
 spire_to_pattern_spec =
     tie.close
     (tie.spec
-    -- to-pattern-requires
+    -- to_pattern-requires
     (λ c κs. search told)
-    -- outcome-reply-requires
+    -- outcome_reply-requires
     (λ c κs. search told)
-    -- same-length
+    -- shape_of-places
     (λ c. search told)
     -- returns
     (λ c. search told))

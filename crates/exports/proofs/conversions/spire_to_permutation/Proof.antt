@@ -8,11 +8,11 @@ pub spire_to_permutation_spec : {M : Type 1} → statement M
 spire_to_permutation_spec =
     tie.close
     (tie.spec
-    -- to-permutation-requires
+    -- to_permutation-requires
     (λ c κs. search told)
-    -- outcome-reply-requires
+    -- outcome_reply-requires
     (λ c κs. search told)
-    -- same-length
+    -- shape_of-entries
     (λ c. search told)
     -- returns
     (λ c. search told))

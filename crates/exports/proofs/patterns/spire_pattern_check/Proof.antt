@@ -10,7 +10,7 @@ spire_pattern_check_spec =
     (tie.spec
     -- check-requires
     (λ c κs. search told)
-    -- outcome-reply-requires
+    -- outcome_reply-requires
     (λ c κs. search told)
     -- returns
     (λ c. search told))

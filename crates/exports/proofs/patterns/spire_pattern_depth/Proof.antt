@@ -10,7 +10,7 @@ spire_pattern_depth_spec =
     (tie.spec
     -- depth-requires
     (λ c κs. search told)
-    -- numbered-reply-requires
+    -- numbered_reply-requires
     (λ c κs. search told)
     -- returns
     (λ c. search told))

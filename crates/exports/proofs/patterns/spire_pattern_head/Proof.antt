@@ -8,9 +8,9 @@ pub spire_pattern_head_spec : {M : Type 1} → statement M
 spire_pattern_head_spec =
     tie.close
     (tie.spec
-    -- head-requires
+    -- head-head-requires
     (λ c κs. search parts)
-    -- from-start-requires
+    -- from_start-requires
     (λ c κs. search parts)
     -- returns
     (λ c. search parts))

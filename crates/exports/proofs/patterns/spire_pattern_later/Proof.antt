@@ -10,31 +10,31 @@ spire_pattern_later_spec =
     (tie.spec
     -- check-requires
     (λ c κs. search parts)
-    -- enum-told
+    -- enum_told-1
     (λ c. search parts)
-    -- from-start-requires
+    -- from_start-requires
     (λ c κs. search parts)
-    -- enum-told-2
+    -- enum_told-in-Done
     (λ c. search parts)
-    -- check-requires-2
+    -- check-requires-in-Done
     (λ c κs. search parts)
-    -- enum-told-3
+    -- enum_told-in-Refused-check
     (λ c. search parts)
-    -- from-start-requires-2
+    -- from_start-requires-in-Refused-check
     (λ c κs. search parts)
-    -- enum-told-4
+    -- enum_told-in-Done-check
     (λ c. search parts)
     -- before-requires
     (λ c κs. search parts)
-    -- from-start-requires-3
+    -- from_start-requires-then-before
     (λ c κs. search parts)
-    -- returns
+    -- returns-then-before
     (λ c. search parts)
-    -- from-start-requires-4
+    -- from_start-requires-in-Done-check
     (λ c κs. search parts)
-    -- returns-2
+    -- returns-in-Refused
     (λ c. search parts)
-    -- returns-3
+    -- returns-in-Refused-check
     (λ c. search parts)
-    -- returns-4
+    -- returns-else-before
     (λ c. search parts))

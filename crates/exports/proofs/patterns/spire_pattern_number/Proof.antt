@@ -10,7 +10,7 @@ spire_pattern_number_spec =
     (tie.spec
     -- number-requires
     (λ c κs. search told)
-    -- numbered-reply-requires
+    -- numbered_reply-requires
     (λ c κs. search told)
     -- returns
     (λ c. search told))

@@ -10,9 +10,9 @@ spire_pattern_successor_spec =
     (tie.spec
     -- successor-requires
     (λ c κs. search told)
-    -- numbered-reply-requires
+    -- numbered_reply-requires
     (λ c κs. search told)
-    -- same-length
+    -- shape_of-places
     (λ c. search told)
     -- returns
     (λ c. search told))

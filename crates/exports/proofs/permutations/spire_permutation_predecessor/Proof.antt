@@ -10,9 +10,9 @@ spire_permutation_predecessor_spec =
     (tie.spec
     -- predecessor-requires
     (λ c κs. search told)
-    -- outcome-reply-requires
+    -- outcome_reply-requires
     (λ c κs. search told)
-    -- same-length
+    -- shape_of-entries
     (λ c. search told)
     -- returns
     (λ c. search told))

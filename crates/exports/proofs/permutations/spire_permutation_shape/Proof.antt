@@ -10,9 +10,9 @@ spire_permutation_shape_spec =
     (tie.spec
     -- shape-requires
     (λ c κs. search told)
-    -- outcome-reply-requires
+    -- outcome_reply-requires
     (λ c κs. search told)
-    -- same-length
+    -- shape_of-entries
     (λ c. search told)
     -- returns
     (λ c. search told))

@@ -10,9 +10,9 @@ spire_record_write_spec =
     (tie.spec
     -- write-requires
     (λ c κs. search told)
-    -- outcome-reply-requires
+    -- outcome_reply-requires
     (λ c κs. search told)
-    -- same-length
+    -- shape_of-bytes
     (λ c. search told)
     -- returns
     (λ c. search told))

@@ -8,17 +8,17 @@ pub progress_reply_spec : {M : Type 1} → statement M
 progress_reply_spec =
     tie.close
     (tie.spec
-    -- enum-told
+    -- enum_told-1
     (λ c. search told)
-    -- enum-told-2
+    -- enum_told-in-Done
     (λ c. search told)
-    -- enum-known-progress
+    -- enum_known-progress
     (λ c. search told)
-    -- outcome-reply-requires
+    -- outcome_reply-requires
     (λ c κs. search told)
-    -- returns
+    -- returns-in-Handed
     (λ c. search told)
-    -- returns-2
+    -- returns-in-Done
     (λ c. search told)
-    -- returns-3
+    -- returns-in-Refused
     (λ c. search told))

@@ -8,9 +8,9 @@ pub spire_run_start_spec : {M : Type 1} → statement M
 spire_run_start_spec =
     tie.close
     (tie.spec
-    -- start-requires
+    -- start-started-requires
     (λ c κs. search told)
-    -- outcome-reply-requires
+    -- outcome_reply-requires
     (λ c κs. search told)
     -- returns
     (λ c. search told))

@@ -8,9 +8,9 @@ pub spire_run_step_spec : {M : Type 1} → statement M
 spire_run_step_spec =
     tie.close
     (tie.spec
-    -- step-requires
+    -- step-stepped-requires
     (λ c κs. search told)
-    -- progress-reply-requires
+    -- progress_reply-reply-requires
     (λ c κs. search told)
     -- returns
     (λ c. search told))

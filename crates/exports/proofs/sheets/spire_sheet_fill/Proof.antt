@@ -8,11 +8,11 @@ pub spire_sheet_fill_spec : {M : Type 1} → statement M
 spire_sheet_fill_spec =
     tie.close
     (tie.spec
-    -- fill-requires
+    -- fill-filled-requires
     (λ c κs. search told)
-    -- numbered-reply-requires
+    -- numbered_reply-reply-requires
     (λ c κs. search told)
-    -- same-length
+    -- shape_of-out
     (λ c. search told)
     -- returns
     (λ c. search told))

@@ -10,17 +10,17 @@ fill_spec =
     (tie.spec
     -- check-requires
     (λ c κs. search fills)
-    -- enum-known-refusal
+    -- enum_known-refusal
     (λ c. search fills)
-    -- enum-told
+    -- enum_told-1
     (λ c. search fills)
-    -- hand-out-requires
+    -- hand_out-requires
     (λ c κs. search fills)
-    -- returns
+    -- returns-in-Refused
     (λ c. (search fills, (search fills, search fills)))
-    -- same-length
+    -- shape_of-out
     (λ c. search fills)
-    -- returns-2
+    -- returns-in-Done
     (λ c.
     fill_answers c.args.self c.args.out.now c.check.ensures (search fills) c.hand_out.result
     c.hand_out.ensures))

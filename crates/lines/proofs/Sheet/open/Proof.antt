@@ -8,21 +8,21 @@ pub open_spec : {M : Type 1} → statement M
 open_spec =
     tie.close
     (tie.spec
-    -- read-requires
+    -- read-asked-requires
     (λ c κs. search answers)
     -- refused-requires
     (λ c κs. search answers)
-    -- returns
+    -- returns-then-not-asked
     (λ c. search answers)
-    -- start-requires
+    -- start-started-requires
     (λ c κs. search answers)
-    -- enum-known-outcome
+    -- enum_known-outcome
     (λ c. search answers)
-    -- refused-requires-2
+    -- refused-requires-in-Refused
     (λ c κs. search answers)
-    -- enum-told
+    -- enum_told-1
     (λ c. search answers)
-    -- returns-2
+    -- returns-in-Refused
     (λ c. search answers)
-    -- returns-3
+    -- returns-in-Done
     (λ c. search answers))

@@ -10,77 +10,77 @@ pub list_spec : {M : Type 1} → statement M
 list_spec =
     tie.close
     (tie.spec
-    -- mul-permutation-of
+    -- overflow_mul-size
     (λ c. search carries)
-    -- sub-permutation-of
+    -- slice_bounds-permutation_of-count
     (λ c. search carries)
-    -- part-permutation-of-start
+    -- slice_bounds-permutation_of-start
     (λ c. search carries)
-    -- part-permutation-of-end
+    -- slice_bounds-permutation_of-end
     (λ c. search carries)
-    -- sub-permutation-of-2
+    -- slice_bounds-permutation_of-count-2
     (λ c. search carries)
-    -- part-entries-start
+    -- slice_bounds-entries-start
     (λ c. search carries)
-    -- part-entries-end
+    -- slice_bounds-entries-end
     (λ c. search carries)
-    -- permutation-of-requires
+    -- permutation_of-requires
     (λ c κs. search carries)
-    -- mul-depths
+    -- overflow_mul-size-2
     (λ c. search carries)
-    -- sub-depths
+    -- slice_bounds-depths-count
     (λ c. search carries)
-    -- part-depths-start
+    -- slice_bounds-depths-start
     (λ c. search carries)
-    -- part-depths-end
+    -- slice_bounds-depths-end
     (λ c. search carries)
-    -- mul-depths-2
+    -- overflow_mul-size-3
     (λ c. search carries)
-    -- add-depths
+    -- overflow_add-size
     (λ c. search carries)
-    -- sub-depths-2
+    -- slice_bounds-depths-count-2
     (λ c. search carries)
-    -- part-depths-start-2
+    -- slice_bounds-depths-start-2
     (λ c. search carries)
-    -- part-depths-end-2
+    -- slice_bounds-depths-end-2
     (λ c. search carries)
     -- depths-requires
     (λ c κs. search carries)
-    -- mul-put-lines
+    -- overflow_mul-size-4
     (λ c. search carries)
-    -- sub-put-lines
+    -- slice_bounds-put_lines-count
     (λ c. search carries)
-    -- part-places-start
+    -- slice_bounds-places-start
     (λ c. search carries)
-    -- part-places-end
+    -- slice_bounds-places-end
     (λ c. search carries)
-    -- sub-put-lines-2
+    -- slice_bounds-put_lines-count-2
     (λ c. search carries)
-    -- part-entries-start-2
+    -- slice_bounds-entries-start-2
     (λ c. search carries)
-    -- part-entries-end-2
+    -- slice_bounds-entries-end-2
     (λ c.
     run_held _ c.requires _ c.permutation_of.ensures _)
-    -- mul-put-lines-2
+    -- overflow_mul-size-5
     (λ c. search carries)
-    -- add-put-lines
+    -- overflow_add-size-2
     (λ c. search carries)
-    -- sub-put-lines-3
+    -- slice_bounds-put_lines-count-3
     (λ c. search carries)
-    -- part-depths-start-3
+    -- slice_bounds-depths-start-3
     (λ c. search carries)
-    -- part-depths-end-3
+    -- slice_bounds-depths-end-3
     (λ c.
     run_covered _ c.requires _ c.depths.ensures _)
-    -- put-lines-requires
+    -- put_lines-walked-requires
     (λ c κs.
     let handed = c.requires in
     let labels = run_labels _ handed _ c.permutation_of.ensures _ in
     let depths = run_deep _ handed _ c.depths.ensures _ in
     ((run_some _ handed, run_small _ handed, run_on _ handed, run_within _ handed), (run_pattern _ handed, labels, depths)))
-    -- places-left-requires
+    -- places_left-requires
     (λ c κs. search carries)
-    -- same-length
+    -- shape_of-out
     (λ c. search carries)
     -- returns
     (λ c.

@@ -8,7 +8,7 @@ pub places_left_spec : {M : Type 1} → statement M
 places_left_spec =
     tie.close
     (tie.spec
-    -- returns
+    -- returns-then-next-end
     (λ c. search answers)
-    -- returns-2
+    -- returns
     (λ c. search answers))

@@ -56,77 +56,77 @@ put_lines_spec =
     (tie.spec
     invariant-loop-out
     decreases-loop-out
-    -- slice-aggregate-put-number
+    -- slice_bounds-put_number-end
     (λ c. search turn)
-    -- put-number-requires
+    -- put_number-width-requires
     (λ c κs. search turn)
-    -- sub-width
+    -- overflow_sub-width
     (λ c. search turn)
-    -- change-requires
+    -- change-change-requires
     (λ c κs. search turn)
-    -- loop-holds
+    -- loop-out-init
     (λ c. (search turn, search turn, search turn, search turn, search turn))
-    -- sub-loop
+    -- overflow_sub-out
     (λ c. search turn)
-    -- sub-if1
+    -- overflow_sub-change
     (λ c. search turn)
-    -- same-length
+    -- shape_of-places-then-figure-change
     (λ c. search turn)
-    -- same-length-2
+    -- shape_of-entries-then-figure-change
     (λ c. search turn)
-    -- same-length-3
+    -- shape_of-depths-then-figure-change
     (λ c. search turn)
-    -- same-length-4
+    -- shape_of-out-then-figure-change
     (λ c. search turn)
-    -- returns
+    -- returns-then-figure-change
     (λ c. (search turn, (search turn, (search turn, (search turn, λ l. search turn)))))
-    -- mul-depth
+    -- overflow_mul-depth
     (λ c. search turn)
-    -- slice-read-depth
+    -- bounds-depths-size
     (λ c. holds_deepest c.loop-out.invariant.1)
-    -- cast-depth
+    -- overflow_cast-depth
     (λ c. holds_deep c.loop-out.invariant.1)
-    -- sub-put-shape
+    -- slice_bounds-put_shape-count
     (λ c. search turn)
-    -- part-put-shape-start
+    -- slice_bounds-put_shape-start
     (λ c. search turn)
-    -- part-put-shape-end
+    -- slice_bounds-put_shape-end
     (λ c. search turn)
-    -- put-shape-requires
+    -- put_shape-at-requires
     (λ c κs.
     let held = c.loop-out.invariant.1 in
     ((search turn, search turn, search turn), ((search turn, search turn), (search turn, search turn, holds_shallow held, search turn))))
-    -- add-figure
+    -- overflow_add-figure
     (λ c. search turn)
-    -- add-next
+    -- overflow_add-next
     (λ c. search turn)
-    -- same-length-5
+    -- shape_of-places-then-next-end
     (λ c. search turn)
-    -- same-length-6
+    -- shape_of-entries-then-next-end
     (λ c. search turn)
-    -- same-length-7
+    -- shape_of-depths-then-next-end
     (λ c. search turn)
-    -- same-length-8
+    -- shape_of-out-then-next-end
     (λ c. search turn)
-    -- returns-2
+    -- returns-then-next-end
     (λ c.
     let inv = c.loop-out.invariant in
     let put =
     put_next inv.0 inv.1 c.if-figure-change.false c.loop-out-test.true c.put_shape-at.ensures.0
     c.put_shape-at.ensures.1 (search turn) in
     (put_last put (search turn), (put.figure, (put.bytes, (put.put, λ l. absurd (omega arith))))))
-    -- next-requires
+    -- next-change-requires
     (λ c κs.
     let held = c.loop-out.invariant.1 in
     ((held.small, holds_formed held, held.labels), held.deep))
-    -- slice-aggregate-count-up
+    -- slice_bounds-count_up-end
     (λ c. search turn)
-    -- count-up-requires
+    -- count_up-width-requires
     (λ c κs.
     holds_width c.loop-out.invariant.1)
-    -- loop-less
+    -- loop-out-smaller
     (λ c. search turn)
-    -- loop-again
+    -- loop-out-preserved
     (λ c.
     let counted = c.count_up-width.ensures in
     let inv = c.loop-out.invariant in
@@ -136,13 +136,13 @@ put_lines_spec =
     let (change, (pattern, (labels, deep))) = c.next-change.ensures in
     let held = holds_next inv.1 c.if-next-end.false change pattern labels deep counted.0 counted.1.0 counted.1.1 in
     (put, held, search turn, search turn, search turn))
-    -- same-length-9
+    -- shape_of-places
     (λ c. search turn)
-    -- same-length-10
+    -- shape_of-entries
     (λ c. search turn)
-    -- same-length-11
+    -- shape_of-depths
     (λ c. search turn)
-    -- same-length-12
+    -- shape_of-out
     (λ c. search turn)
-    -- returns-3
+    -- returns
     (λ c. (search turn, (search turn, (search turn, (search turn, λ l. search turn))))))

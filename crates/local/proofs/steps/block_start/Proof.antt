@@ -20,19 +20,19 @@ block_start_spec =
     (tie.spec
     invariant-loop-i
     decreases-loop-i
-    -- loop-holds
+    -- loop-i-init
     (λ c. search turn)
-    -- sub-if1
+    -- overflow_sub-i
     (λ c. search turn)
-    -- shared-slice-read-if1
+    -- bounds-places-i
+    (λ c. search turn)
+    -- returns-then-places-i
+    (λ c. search turn)
+    -- overflow_sub-i-in-loop-i
+    (λ c. search turn)
+    -- loop-i-smaller
+    (λ c. search turn)
+    -- loop-i-preserved
     (λ c. search turn)
     -- returns
-    (λ c. search turn)
-    -- sub-i
-    (λ c. search turn)
-    -- loop-less
-    (λ c. search turn)
-    -- loop-again
-    (λ c. search turn)
-    -- returns-2
     (λ c. search turn))

@@ -22,17 +22,17 @@ pub change_spec : {M : Type 1} → statement M
 change_spec =
     tie.close
     (tie.spec
-    -- mul-last
+    -- overflow_mul-last
     (λ c. omega (arith, feasible_length))
-    -- pairs-start-requires
+    -- pairs_start-pairs-requires
     (λ c κs. omega (arith, feasible_length))
-    -- block-start-requires
+    -- block_start-changed-requires
     (λ c κs. search turn)
-    -- returns
+    -- returns-then-changed-eq0
     (λ c. search turn)
-    -- sub-result
+    -- overflow_sub-result
     (λ c. omega (arith, known c))
-    -- add-result
+    -- overflow_add-result
     (λ c. omega (arith, known c))
-    -- returns-2
+    -- returns
     (λ c. search turn))

@@ -12,11 +12,11 @@ pub last_block_spec : {M : Type 1} → statement M
 last_block_spec =
     tie.close
     (tie.spec
-    -- mul-block-start
+    -- overflow_mul-size
     (λ c. omega (arith, feasible_length))
-    -- block-start-requires
+    -- block_start-end-requires
     (λ c κs. omega (arith, feasible_length))
-    -- block-start-requires-2
+    -- block_start-requires
     (λ c κs. search turn)
     -- returns
     (λ c. search turn))

@@ -16,29 +16,29 @@ pub move_block_spec : {M : Type 1} → statement M
 move_block_spec =
     tie.close
     (tie.spec
-    -- mul-last
+    -- overflow_mul-last
     (λ c. omega (arith, known c))
-    -- sub-places
+    -- overflow_sub-places
     (λ c. search turn)
-    -- slice-write-places
+    -- bounds-places-start
     (λ c. omega (arith, known c))
     -- put-requires
     (λ c κs. let k = known c.before in simp length-set (omega arith))
-    -- sub-put-pairs
+    -- overflow_sub-end
     (λ c. omega (arith, known c.before.before.before.before.before))
-    -- sub-put-pairs-2
+    -- overflow_sub-end-2
     (λ c. omega (arith, known c.before.before.before.before.before))
-    -- mul-put-pairs
+    -- overflow_mul-end
     (λ c. omega (arith, known c.before.before.before.before.before))
-    -- sub-put-pairs-3
+    -- overflow_sub-last
     (λ c. omega (arith, known c.before.before.before.before.before))
-    -- put-pairs-requires
+    -- put_pairs-requires
     (λ c κs. omega (arith, known c.before.before.before.before.before, simp length-set at c.put.auto.places))
-    -- sub-result
+    -- overflow_sub-result
     (λ c. omega (arith, known c.before.before.before.before.before.before.before.before))
-    -- add-result
+    -- overflow_add-result
     (λ c. omega (arith, known c.before.before.before.before.before.before.before.before))
-    -- same-length
+    -- shape_of-places
     (λ c. omega (arith, simp length-set at c.put.auto.places))
     -- returns
     (λ c. search turn))

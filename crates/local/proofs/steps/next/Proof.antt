@@ -11,15 +11,15 @@ pub next_spec : {M : Type 1} → statement M
 next_spec =
     tie.close
     (tie.spec
-    -- last-block-requires
+    -- last_block-block-requires
     (λ c κs. search turn)
-    -- same-length
+    -- shape_of-places-then-block-eq0
+    (λ c. search turn)
+    -- returns-then-block-eq0
+    (λ c. search turn)
+    -- move_block-requires
+    (λ c κs. search turn)
+    -- shape_of-places
     (λ c. search turn)
     -- returns
-    (λ c. search turn)
-    -- move-block-requires
-    (λ c κs. search turn)
-    -- same-length-2
-    (λ c. search turn)
-    -- returns-2
     (λ c. search turn))

@@ -24,35 +24,35 @@ pub previous_spec : {M : Type 1} → statement M
 previous_spec =
     tie.close
     (tie.spec
-    -- mul-last
+    -- overflow_mul-last
     (λ c. omega (arith, feasible_length))
-    -- pairs-start-requires
+    -- pairs_start-pairs-requires
     (λ c κs. omega (arith, feasible_length))
-    -- block-start-requires
+    -- block_start-zeros-requires
     (λ c κs. search turn)
-    -- same-length
+    -- shape_of-places-then-zeros-eq0
     (λ c. search turn)
-    -- returns
+    -- returns-then-zeros-eq0
     (λ c. search turn)
-    -- sub-places
+    -- overflow_sub-places
     (λ c. search turn)
-    -- slice-write-places
+    -- bounds-places-zeros
     (λ c. omega (arith, known c))
-    -- put-pairs-requires
+    -- put_pairs-requires
     (λ c κs. let k = known c.before in simp length-set (omega arith))
-    -- sub-put
+    -- overflow_sub-last
     (λ c. omega (arith, known c.before.before.before.before.before))
-    -- add-put
+    -- overflow_add-zeros
     (λ c. omega (arith, known c.before.before.before.before.before))
-    -- add-put-2
+    -- overflow_add-zeros-2
     (λ c. omega (arith, known c.before.before.before.before.before))
     -- put-requires
     (λ c κs. omega (arith, known c.before.before.before.before.before, simp length-set at c.put_pairs.auto.places))
-    -- sub-result
+    -- overflow_sub-result
     (λ c. omega (arith, known c.before.before.before.before.before.before.before.before))
-    -- add-result
+    -- overflow_add-result
     (λ c. omega (arith, known c.before.before.before.before.before.before.before.before))
-    -- same-length-2
+    -- shape_of-places
     (λ c. omega (arith, simp length-set at c.put_pairs.auto.places))
-    -- returns-2
+    -- returns
     (λ c. search turn))

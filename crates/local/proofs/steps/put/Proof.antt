@@ -22,17 +22,17 @@ put_spec =
     (tie.spec
     invariant-loop-i
     decreases-loop-i
-    -- loop-holds
+    -- loop-i-init
     (λ c. search turn)
-    -- slice-write-places
+    -- bounds-places-i
     (λ c. search turn)
-    -- add-i
+    -- overflow_add-i
     (λ c. search turn)
-    -- loop-less
+    -- loop-i-smaller
     (λ c. search turn)
-    -- loop-again
+    -- loop-i-preserved
     (λ c. search turn)
-    -- same-length
+    -- shape_of-places
     (λ c. search turn)
     -- returns
     (λ c. search turn))

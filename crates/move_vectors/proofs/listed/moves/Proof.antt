@@ -16,21 +16,21 @@ moves_spec =
     (tie.spec
     invariant-loop-i
     decreases-loop-i
-    -- loop-holds
+    -- loop-i-init
     (λ c. search rules)
-    -- field-requires
+    -- field-from-requires
     (λ c κs. search rules)
+    -- returns-then-from-eq0
+    (λ c. search rules)
+    -- moves_from-count-requires
+    (λ c κs. search rules)
+    -- wrapping_add_u64-right-requires
+    (λ c κs. search rules)
+    -- overflow_add-i
+    (λ c. search rules)
+    -- loop-i-smaller
+    (λ c. search rules)
+    -- loop-i-preserved
+    (λ c. search rules)
     -- returns
-    (λ c. search rules)
-    -- moves-from-requires
-    (λ c κs. search rules)
-    -- wrapping-add-u64-requires
-    (λ c κs. search rules)
-    -- add-i
-    (λ c. search rules)
-    -- loop-less
-    (λ c. search rules)
-    -- loop-again
-    (λ c. search rules)
-    -- returns-2
     (λ c. search rules))

@@ -16,23 +16,23 @@ moves_from_spec =
     (tie.spec
     invariant-loop-j
     decreases-loop-j
-    -- loop-holds
+    -- loop-j-init
     (λ c. search rules)
-    -- field-requires
+    -- field-to-requires
     (λ c κs. search rules)
-    -- returns
+    -- returns-then-to-eq0
     (λ c. search rules)
     -- between-requires
     (λ c κs. search rules)
-    -- arrives-requires
+    -- arrives-count-requires
     (λ c κs. search rules)
-    -- wrapping-add-u64-requires
+    -- wrapping_add_u64-right-requires
     (λ c κs. search rules)
-    -- add-j
+    -- overflow_add-j
     (λ c. search rules)
-    -- loop-less
+    -- loop-j-smaller
     (λ c. search rules)
-    -- loop-again
+    -- loop-j-preserved
     (λ c. search rules)
-    -- returns-2
+    -- returns
     (λ c. search rules))

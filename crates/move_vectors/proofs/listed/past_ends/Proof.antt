@@ -16,29 +16,29 @@ past_ends_spec =
     (tie.spec
     invariant-loop-i
     decreases-loop-i
-    -- loop-holds
+    -- loop-i-init
     (λ c. search rules)
-    -- field-requires
+    -- field-from-requires
     (λ c κs. search rules)
-    -- returns
+    -- returns-then-from-eq0
     (λ c. search rules)
     -- between-requires
     (λ c κs. search rules)
-    -- arrives-requires
+    -- arrives-on-requires
     (λ c κs. search rules)
-    -- add-i
+    -- overflow_add-i
     (λ c. search rules)
-    -- between-requires-2
+    -- between-requires-in-loop-i
     (λ c κs. search rules)
-    -- arrives-requires-2
+    -- arrives-back-requires
     (λ c κs. search rules)
-    -- wrapping-add-u64-requires
+    -- wrapping_add_u64-requires
     (λ c κs. search rules)
-    -- wrapping-add-u64-requires-2
+    -- wrapping_add_u64-right-requires
     (λ c κs. search rules)
-    -- loop-less
+    -- loop-i-smaller
     (λ c. search rules)
-    -- loop-again
+    -- loop-i-preserved
     (λ c. search rules)
-    -- returns-2
+    -- returns
     (λ c. search rules))

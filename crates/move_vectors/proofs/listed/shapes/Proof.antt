@@ -16,17 +16,17 @@ shapes_spec =
     (tie.spec
     invariant-loop-k
     decreases-loop-k
-    -- loop-holds
+    -- loop-k-init
     (λ c. search rules)
     -- field-requires
     (λ c κs. search rules)
+    -- returns-then-field-eq0
+    (λ c. search rules)
+    -- overflow_add-k
+    (λ c. search rules)
+    -- loop-k-smaller
+    (λ c. search rules)
+    -- loop-k-preserved
+    (λ c. search rules)
     -- returns
-    (λ c. search rules)
-    -- add-k
-    (λ c. search rules)
-    -- loop-less
-    (λ c. search rules)
-    -- loop-again
-    (λ c. search rules)
-    -- returns-2
     (λ c. search rules))

@@ -20,37 +20,37 @@ pattern_of_spec =
     (tie.spec
     invariant-loop-i
     decreases-loop-i
-    -- mul-i
+    -- overflow_mul-i
     (λ c. search turn)
-    -- loop-holds
+    -- loop-i-init
     (λ c. search turn)
-    -- sub-i
+    -- overflow_sub-i
     (λ c. search turn)
-    -- sub-one
+    -- overflow_sub-one
     (λ c. search turn)
-    -- mul-one
+    -- offset_bounds-entries-k
     (λ c. search turn)
-    -- shared-slice-read-one
+    -- bounds-entries-k
     (λ c. search turn)
-    -- cast-one
+    -- overflow_cast-one
     (λ c. search turn)
-    -- cast-one-2
+    -- overflow_cast-one-in-loop-i
     (λ c. search turn)
-    -- cast-places
+    -- overflow_cast-places
     (λ c. search turn)
-    -- slice-write-places
+    -- bounds-places-i
     (λ c. search turn)
-    -- sub-label
+    -- overflow_sub-label
     (λ c. search turn)
-    -- sub-label-2
+    -- overflow_sub-label-in-loop-i
     (λ c. search turn)
-    -- sub-k
+    -- overflow_sub-k
     (λ c. search turn)
-    -- loop-less
+    -- loop-i-smaller
     (λ c. search turn)
-    -- loop-again
+    -- loop-i-preserved
     (λ c. search turn)
-    -- same-length
+    -- shape_of-places
     (λ c. search turn)
     -- returns
     (λ c. search turn))

@@ -21,55 +21,55 @@ permutation_of_spec =
     (tie.spec
     invariant-loop-i
     decreases-loop-i
-    -- mul-i
+    -- overflow_mul-i
     (λ c. search turn)
-    -- loop-holds
+    -- loop-i-init
     (λ c. search turn)
-    -- sub-i
+    -- overflow_sub-i
     (λ c. search turn)
-    -- shared-slice-read-one
+    -- bounds-places-i
     (λ c. search turn)
-    -- cast-one
+    -- overflow_cast-one
     (λ c. search turn)
-    -- sub-waiting
+    -- overflow_sub-waiting
     (λ c. search turn)
-    -- sub-k
+    -- overflow_sub-k
     (λ c. search turn)
-    -- sub-gap
+    -- overflow_sub-gap
     (λ c. search turn)
-    -- mul-taken
+    -- offset_bounds-entries-waiting
     (λ c. search turn)
-    -- slice-read-taken
+    -- bounds-entries-waiting
     (λ c. search turn)
-    -- cast-taken
+    -- overflow_cast-taken
     (λ c. search turn)
-    -- mul-entries
+    -- overflow_mul-entries
     (λ c. search turn)
-    -- sub-entries
+    -- overflow_sub-entries
     (λ c. search turn)
-    -- mul-entries-2
+    -- overflow_mul-entries-in-loop-i
     (λ c. search turn)
-    -- add-entries
+    -- overflow_add-entries
     (λ c. search turn)
-    -- cast-entries
+    -- overflow_cast-entries
     (λ c. search turn)
-    -- mul-entries-3
+    -- overflow_mul-entries-in-loop-i-2
     (λ c. search turn)
-    -- add-entries-2
+    -- overflow_add-entries-in-loop-i
     (λ c. search turn)
-    -- mul-entries-4
+    -- offset_bounds-entries-waiting-in-loop-i
     (λ c. search turn)
-    -- slice-write-entries
+    -- bounds-entries-waiting-in-loop-i
     (λ c. search turn)
-    -- sub-waiting-2
+    -- overflow_sub-waiting-in-loop-i
     (λ c. search turn)
-    -- add-waiting
+    -- overflow_add-waiting
     (λ c. search turn)
-    -- loop-less
+    -- loop-i-smaller
     (λ c. search turn)
-    -- loop-again
+    -- loop-i-preserved
     (λ c. search turn)
-    -- same-length
+    -- shape_of-entries
     (λ c. search turn)
     -- returns
     (λ c. search turn))

@@ -69,68 +69,68 @@ pub +next_spec : {M : Type 1} → statement M
     (claims t)
     (next_at t)
     reads.Post
-    -- returns
+    -- returns-then-entries-eq0
     (λ c. empty_moves next_steps _ c.before.before.requires.1 c.if-entries-eq0.true)
-    -- slice-read-root
+    -- bounds-entries-0
     (λ c. search rules)
-    -- sub-right
+    -- overflow_sub-right
     (λ c. omega (arith, root (rooted t c.before)))
-    -- cast-right
+    -- overflow_cast-right
     (λ c. omega (arith, root (rooted t c.before)))
-    -- mul-next
+    -- offset_bounds-entries-right
     (λ c. omega (arith, root (rooted t c.before)))
-    -- sub-next
+    -- slice_bounds-next-count
     (λ c. omega (arith, root (rooted t c.before)))
-    -- part-next-start
+    -- slice_bounds-next-start
     (λ c. omega (arith, root (rooted t c.before)))
-    -- part-next-end
+    -- slice_bounds-next-end
     (λ c. search rules)
     -- next-requires
     (λ c κs. let h = rooted t c.before.before in (omega (arith, root h), right_part h))
-    -- same-length
+    -- shape_of-entries-then-next
     (λ c. search rules)
-    -- returns-2
+    -- returns-then-next
     (λ c.
     let asked = c.before.before.before in
     right_moves next_steps (rooted t asked.before.before.before) asked.next.ensures c.if-next.true)
-    -- sub-next-2
+    -- slice_bounds-next-count-2
     (λ c. omega (arith, root (right t c).0))
-    -- part-next-start-2
+    -- slice_bounds-next-start-2
     (λ c. omega (arith, root (right t c).0))
-    -- part-next-end-2
+    -- slice_bounds-next-end-2
     (λ c. omega (arith, root (right t c).0))
     -- next-requires-2
     (λ c κs. let (h, m) = right t c.before in (omega (arith, root h), left_still next_steps h m))
-    -- mul-put-first
+    -- offset_bounds-entries-right-then-next-2
     (λ c. omega (arith, root (right t c.before.before.before.before.before).0))
-    -- sub-put-first
+    -- slice_bounds-put_first-count
     (λ c. omega (arith, root (right t c.before.before.before.before.before).0))
-    -- part-put-first-start
+    -- slice_bounds-put_first-start
     (λ c. omega (arith, root (right t c.before.before.before.before.before).0))
-    -- part-put-first-end
+    -- slice_bounds-put_first-end
     (λ c. search rules)
-    -- put-first-requires
+    -- put_first-requires
     (λ c κs. omega (arith, root (right t c.before.before.before.before.before.before).0))
-    -- same-length-2
+    -- shape_of-entries-then-next-2
     (λ c. search rules)
-    -- returns-3
+    -- returns-then-next-2
     (λ c.
     let put = c.before.before in
     let stepped = put.before.before in
     let back = stepped.before.before in
     let (h, m) = right t back.before.before.before in
     left_moves next_steps h m back.before.next-2.ensures stepped.if-next-2.true put.put_first.ensures)
-    -- same-length-3
+    -- shape_of-entries-then-right-entries
     (λ c. search rules)
-    -- returns-4
+    -- returns-then-right-entries
     (λ c. let (h, m) = both t c.before in next_last h m c.if-right-entries.true)
-    -- add-put-first-parts
+    -- overflow_add-root
     (λ c. omega (arith, root (both t c.before).0))
-    -- put-first-parts-requires
+    -- put_first_parts-requires
     (λ c κs. let x = root (both t c.before.before).0 in search rules)
-    -- same-length-4
+    -- shape_of-entries
     (λ c. search rules)
-    -- returns-5
+    -- returns
     (λ c.
     let put = c.before.before in
     let more = put.before.before in

@@ -69,68 +69,68 @@ pub +previous_spec : {M : Type 1} → statement M
     (claims t)
     (previous_at t)
     reads.Post
-    -- returns
+    -- returns-then-entries-eq0
     (λ c. empty_moves previous_steps _ c.before.before.requires.1 c.if-entries-eq0.true)
-    -- slice-read-root
+    -- bounds-entries-0
     (λ c. search rules)
-    -- sub-right
+    -- overflow_sub-right
     (λ c. omega (arith, root (rooted t c.before)))
-    -- cast-right
+    -- overflow_cast-right
     (λ c. omega (arith, root (rooted t c.before)))
-    -- mul-previous
+    -- offset_bounds-entries-right
     (λ c. omega (arith, root (rooted t c.before)))
-    -- sub-previous
+    -- slice_bounds-previous-count
     (λ c. omega (arith, root (rooted t c.before)))
-    -- part-previous-start
+    -- slice_bounds-previous-start
     (λ c. omega (arith, root (rooted t c.before)))
-    -- part-previous-end
+    -- slice_bounds-previous-end
     (λ c. search rules)
     -- previous-requires
     (λ c κs. let h = rooted t c.before.before in (omega (arith, root h), right_part h))
-    -- same-length
+    -- shape_of-entries-then-previous
     (λ c. search rules)
-    -- returns-2
+    -- returns-then-previous
     (λ c.
     let asked = c.before.before.before in
     right_moves previous_steps (rooted t asked.before.before.before) asked.previous.ensures c.if-previous.true)
-    -- sub-previous-2
+    -- slice_bounds-previous-count-2
     (λ c. omega (arith, root (right t c).0))
-    -- part-previous-start-2
+    -- slice_bounds-previous-start-2
     (λ c. omega (arith, root (right t c).0))
-    -- part-previous-end-2
+    -- slice_bounds-previous-end-2
     (λ c. omega (arith, root (right t c).0))
     -- previous-requires-2
     (λ c κs. let (h, m) = right t c.before in (omega (arith, root h), left_still previous_steps h m))
-    -- mul-put-last
+    -- offset_bounds-entries-right-then-previous-2
     (λ c. omega (arith, root (right t c.before.before.before.before.before).0))
-    -- sub-put-last
+    -- slice_bounds-put_last-count
     (λ c. omega (arith, root (right t c.before.before.before.before.before).0))
-    -- part-put-last-start
+    -- slice_bounds-put_last-start
     (λ c. omega (arith, root (right t c.before.before.before.before.before).0))
-    -- part-put-last-end
+    -- slice_bounds-put_last-end
     (λ c. search rules)
-    -- put-last-requires
+    -- put_last-requires
     (λ c κs. omega (arith, root (right t c.before.before.before.before.before.before).0))
-    -- same-length-2
+    -- shape_of-entries-then-previous-2
     (λ c. search rules)
-    -- returns-3
+    -- returns-then-previous-2
     (λ c.
     let put = c.before.before in
     let stepped = put.before.before in
     let back = stepped.before.before in
     let (h, m) = right t back.before.before.before in
     left_moves previous_steps h m back.before.previous-2.ensures stepped.if-previous-2.true put.put_last.ensures)
-    -- same-length-3
+    -- shape_of-entries-then-right-eq1
     (λ c. search rules)
-    -- returns-4
+    -- returns-then-right-eq1
     (λ c. let (h, m) = both t c.before in previous_first h m c.if-right-eq1.true)
-    -- sub-put-last-parts
+    -- overflow_sub-root
     (λ c. omega (arith, root (both t c.before).0))
-    -- put-last-parts-requires
+    -- put_last_parts-requires
     (λ c κs. let x = root (both t c.before.before).0 in search rules)
-    -- same-length-4
+    -- shape_of-entries
     (λ c. search rules)
-    -- returns-5
+    -- returns
     (λ c.
     let put = c.before.before in
     let more = put.before.before in

@@ -11,31 +11,31 @@ pub put_first_parts_spec : {M : Type 1} → statement M
 put_first_parts_spec =
     tie.close
     (tie.spec
-    -- sub-right
+    -- overflow_sub-right
     (λ c. search rules)
-    -- cast-right
+    -- overflow_cast-right
     (λ c. search rules)
-    -- slice-write-entries
+    -- bounds-entries-0
     (λ c. search rules)
-    -- sub-put-first
+    -- slice_bounds-put_first-count
     (λ c. search rules)
-    -- part-put-first-start
+    -- slice_bounds-put_first-start
     (λ c. search rules)
-    -- part-put-first-end
+    -- slice_bounds-put_first-end
     (λ c. simp length-set (omega arith))
-    -- put-first-requires
+    -- put_first-requires
     (λ c κs. search rules)
-    -- mul-put-first
+    -- offset_bounds-entries-right
     (λ c. search rules)
-    -- sub-put-first-2
+    -- slice_bounds-put_first-count-2
     (λ c. omega (arith, simp length-set at c.before.entries-1.given.1))
-    -- part-put-first-start-2
+    -- slice_bounds-put_first-start-2
     (λ c. omega (arith, simp length-set at c.before.entries-1.given.1))
-    -- part-put-first-end-2
+    -- slice_bounds-put_first-end-2
     (λ c. search rules)
-    -- put-first-requires-2
+    -- put_first-requires-2
     (λ c κs. omega (arith, simp length-set at c.before.before.entries-1.given.1))
-    -- same-length
+    -- shape_of-entries
     (λ c. omega (arith, simp length-set at c.before.before.before.before.before.entries-1.given.1))
     -- returns
     (λ c. search (parts_put next_steps)))

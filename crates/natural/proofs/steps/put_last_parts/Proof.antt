@@ -11,31 +11,31 @@ pub put_last_parts_spec : {M : Type 1} → statement M
 put_last_parts_spec =
     tie.close
     (tie.spec
-    -- sub-right
+    -- overflow_sub-right
     (λ c. search rules)
-    -- cast-right
+    -- overflow_cast-right
     (λ c. search rules)
-    -- slice-write-entries
+    -- bounds-entries-0
     (λ c. search rules)
-    -- sub-put-last
+    -- slice_bounds-put_last-count
     (λ c. search rules)
-    -- part-put-last-start
+    -- slice_bounds-put_last-start
     (λ c. search rules)
-    -- part-put-last-end
+    -- slice_bounds-put_last-end
     (λ c. simp length-set (omega arith))
-    -- put-last-requires
+    -- put_last-requires
     (λ c κs. search rules)
-    -- mul-put-last
+    -- offset_bounds-entries-right
     (λ c. search rules)
-    -- sub-put-last-2
+    -- slice_bounds-put_last-count-2
     (λ c. omega (arith, simp length-set at c.before.entries-1.given.1))
-    -- part-put-last-start-2
+    -- slice_bounds-put_last-start-2
     (λ c. omega (arith, simp length-set at c.before.entries-1.given.1))
-    -- part-put-last-end-2
+    -- slice_bounds-put_last-end-2
     (λ c. search rules)
-    -- put-last-requires-2
+    -- put_last-requires-2
     (λ c κs. omega (arith, simp length-set at c.before.before.entries-1.given.1))
-    -- same-length
+    -- shape_of-entries
     (λ c. omega (arith, simp length-set at c.before.before.before.before.before.entries-1.given.1))
     -- returns
     (λ c. search (parts_put previous_steps)))

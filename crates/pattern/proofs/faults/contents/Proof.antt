@@ -13,11 +13,11 @@ contents_spec =
     (tie.spec
     -- feasible-requires
     (λ c κs. search turn)
-    -- returns
+    -- returns-then-feasible
     (λ c. search turn)
-    -- first-above-requires
+    -- first_above-requires
     (λ c κs. search turn)
-    -- returns-2
+    -- returns-then-first_above-places
     (λ c. search turn)
-    -- returns-3
+    -- returns
     (λ c. search turn))

@@ -33,41 +33,41 @@ feasible_spec =
     (tie.spec
     invariant-loop-k
     decreases-loop-k
-    -- loop-holds
+    -- loop-k-init
     (λ c. search turn)
-    -- mul-first
+    -- overflow_mul-first
     (λ c. search turn)
-    -- shared-slice-read-first
+    -- bounds-places-k
     (λ c. search turn)
-    -- cast-first
+    -- overflow_cast-first
     (λ c. search turn)
-    -- mul-second
+    -- overflow_mul-second
     (λ c. search turn)
-    -- add-second
+    -- overflow_add-second
     (λ c. search turn)
-    -- shared-slice-read-second
+    -- bounds-places-k-in-loop-k
     (λ c. search turn)
-    -- cast-second
+    -- overflow_cast-second
     (λ c. search turn)
-    -- add-faults
+    -- overflow_add-faults
     (λ c. search turn)
-    -- cast-faults
+    -- overflow_cast-faults
     (λ c. search turn)
-    -- add-faults-2
+    -- overflow_add-faults-in-loop-k
     (λ c. search turn)
-    -- add-faults-3
+    -- overflow_add-faults-in-loop-k-2
     (λ c. search turn)
-    -- add-ones
+    -- overflow_add-ones
     (λ c. search turn)
-    -- add-ones-2
+    -- overflow_add-ones-in-loop-k
     (λ c. search turn)
-    -- add-k
+    -- overflow_add-k
     (λ c. search turn)
-    -- loop-less
+    -- loop-k-smaller
     (λ c. search turn)
-    -- loop-again
+    -- loop-k-preserved
+    (λ c. search turn)
+    -- returns-then-faults-gt0
     (λ c. search turn)
     -- returns
-    (λ c. search turn)
-    -- returns-2
     (λ c. search turn))

@@ -11,13 +11,13 @@ pub contents_spec : {M : Type 1} → statement M
 contents_spec =
     tie.close
     (tie.spec
-    -- first-fault-requires
+    -- first_fault-requires
     (λ c κs. search turn)
+    -- returns-then-first_fault-size
+    (λ c. search turn)
+    -- first_unfit-requires
+    (λ c κs. search turn)
+    -- returns-then-first_unfit-size
+    (λ c. search turn)
     -- returns
-    (λ c. search turn)
-    -- first-unfit-requires
-    (λ c κs. search turn)
-    -- returns-2
-    (λ c. search turn)
-    -- returns-3
     (λ c. search turn))

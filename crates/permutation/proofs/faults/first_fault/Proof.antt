@@ -21,51 +21,51 @@ first_fault_spec =
     (tie.spec
     invariant-loop-k
     decreases-loop-k
-    -- array-write-above
+    -- bounds-above-0
     (λ c. search turn)
-    -- loop-holds
+    -- loop-k-init
     (λ c. search turn)
-    -- mul-entry
+    -- offset_bounds-entries-k
     (λ c. search turn)
-    -- shared-slice-read-entry
+    -- bounds-entries-k
     (λ c. search turn)
-    -- cast-entry: an entry is 16 bits
+    -- overflow_cast-entry: an entry is 16 bits
     (λ c. omega (arith, c.shared_slice_known-in-loop-k-1.given c.before.before.loop-k.k))
-    -- returns
+    -- returns-then-entry-eq0
     (λ c. search turn)
-    -- returns-2
+    -- returns-then-entry-size
     (λ c. search turn)
-    -- mul-if3
+    -- offset_bounds-above-entry
     (λ c. search turn)
-    -- array-read-if3
+    -- bounds-above-entry
     (λ c. search turn)
-    -- returns-3
+    -- returns-then-above-entry-ne0
     (λ c. search turn)
-    -- returns-4
+    -- returns-then-entry-closed
     (λ c. search turn)
-    -- slice-aggregate-last-below
+    -- slice_bounds-last_below-end
     (λ c. search turn)
-    -- last-below-requires
+    -- last_below-below-requires
     (λ c κs. search turn)
-    -- mul-above
+    -- offset_bounds-above-below
     (λ c. search turn)
-    -- array-read-above
+    -- bounds-above-below
     (λ c. search turn)
-    -- mul-above-2
+    -- offset_bounds-above-entry-in-loop-k
     (λ c. search turn)
-    -- array-write-above-2
+    -- bounds-above-entry-in-loop-k
     (λ c. search turn)
-    -- cast-above
+    -- overflow_cast-above
     (λ c. search turn)
-    -- mul-above-3
+    -- offset_bounds-above-below-in-loop-k
     (λ c. search turn)
-    -- array-write-above-3
+    -- bounds-above-below-in-loop-k
     (λ c. search turn)
-    -- add-k
+    -- overflow_add-k
     (λ c. search turn)
-    -- loop-less
+    -- loop-k-smaller
     (λ c. search turn)
-    -- loop-again
+    -- loop-k-preserved
     (λ c. search turn)
-    -- returns-5
+    -- returns
     (λ c. search turn))

@@ -19,29 +19,29 @@ first_unfit_spec =
     (tie.spec
     invariant-loop-k
     decreases-loop-k
-    -- loop-holds
+    -- loop-k-init
     (λ c. search turn)
-    -- mul-entry
+    -- offset_bounds-entries-k
     (λ c. search turn)
-    -- shared-slice-read-entry
+    -- bounds-entries-k
     (λ c. search turn)
-    -- cast-entry: an entry is 16 bits
+    -- overflow_cast-entry: an entry is 16 bits
     (λ c. omega (arith, c.shared_slice_known-1.given c.before.before.loop-k.k))
+    -- returns-then-entry-eq0
+    (λ c. search turn)
+    -- returns-then-entry-size
+    (λ c. search turn)
+    -- bounds-seen-entry
+    (λ c. search turn)
+    -- returns-then-seen-entry
+    (λ c. search turn)
+    -- bounds-seen-entry-in-loop-k
+    (λ c. search turn)
+    -- overflow_add-k
+    (λ c. search turn)
+    -- loop-k-smaller
+    (λ c. search turn)
+    -- loop-k-preserved
+    (λ c. search turn)
     -- returns
-    (λ c. search turn)
-    -- returns-2
-    (λ c. search turn)
-    -- array-read-if3
-    (λ c. search turn)
-    -- returns-3
-    (λ c. search turn)
-    -- array-write-seen
-    (λ c. search turn)
-    -- add-k
-    (λ c. search turn)
-    -- loop-less
-    (λ c. search turn)
-    -- loop-again
-    (λ c. search turn)
-    -- returns-4
     (λ c. search turn))

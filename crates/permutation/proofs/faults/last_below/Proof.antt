@@ -20,23 +20,23 @@ last_below_spec =
     (tie.spec
     invariant-loop-label
     decreases-loop-label
-    -- loop-holds
+    -- loop-label-init
     (λ c. search turn)
-    -- mul-if1
+    -- offset_bounds-above-label
     (λ c. search turn)
-    -- shared-slice-read-if1
+    -- bounds-above-label
     (λ c. search turn)
-    -- cast-if1: a link is 16 bits
+    -- overflow_cast-above: a link is 16 bits
     (λ c. omega (arith, c.shared_slice_known-1.given c.before.loop-label.label))
-    -- mul-label
+    -- offset_bounds-above-label-in-loop-label
     (λ c. search turn)
-    -- shared-slice-read-label
+    -- bounds-above-label-in-loop-label
     (λ c. search turn)
-    -- cast-label
+    -- overflow_cast-label
     (λ c. search turn)
-    -- loop-less
+    -- loop-label-smaller
     (λ c. search turn)
-    -- loop-again
+    -- loop-label-preserved
     (λ c. search turn)
     -- returns
     (λ c. search turn))

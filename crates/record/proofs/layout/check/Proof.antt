@@ -12,35 +12,35 @@ pub check_spec : {M : Type 1} → statement M
 check_spec =
     tie.close
     (tie.spec
-    -- returns
+    -- returns-then-bytes-eq0
     (λ c. search found)
-    -- shared-slice-read-size
+    -- bounds-bytes-0
     (λ c. search found)
-    -- cast-size
+    -- overflow_cast-size
     (λ c. omega (arith, c.shared_slice_known-2-1.given 0))
-    -- returns-2
+    -- returns-then-size-eq0
     (λ c. search found)
-    -- returns-3
+    -- returns-then-size-gt35
     (λ c. search found)
-    -- shared-slice-read-if4
+    -- bounds-bytes-0-2
     (λ c. search found)
-    -- returns-4
+    -- returns-then-bytes-ne0
     (λ c. search found)
-    -- add-if5
+    -- overflow_add-size
     (λ c. search found)
-    -- add-if5-2
+    -- overflow_add-size-2
     (λ c. search found)
-    -- returns-5
+    -- returns-then-bytes-size
     (λ c. search found)
-    -- sub-if6
+    -- overflow_sub-bytes
     (λ c. search found)
-    -- shared-slice-read-if6
+    -- bounds-bytes-bytes
     (λ c. search found)
-    -- fill-unit-requires
+    -- fill_unit-requires
     (λ c κs. search found)
-    -- rem-if6
+    -- nonzero_rem-bytes-2
     (λ c. search found)
-    -- returns-6
+    -- returns-then-bytes-fill_unit-ne0
     (λ c. search found)
-    -- returns-7
+    -- returns
     (λ c. search found))

@@ -11,11 +11,11 @@ pub fill_unit_spec : {M : Type 1} → statement M
 fill_unit_spec =
     tie.close
     (tie.spec
+    -- returns-then-rest-eq0
+    (λ c. search found)
+    -- returns-then-rest-eq1
+    (λ c. search found)
+    -- returns-then-rest-eq2
+    (λ c. search found)
     -- returns
-    (λ c. search found)
-    -- returns-2
-    (λ c. search found)
-    -- returns-3
-    (λ c. search found)
-    -- returns-4
     (λ c. search found))

@@ -22,19 +22,19 @@ copy_spec =
     (tie.spec
     invariant-loop-i
     decreases-loop-i
-    -- loop-holds
+    -- loop-i-init
     (λ c. search turn)
-    -- shared-slice-read-to
+    -- bounds-from-i
     (λ c. search turn)
-    -- slice-write-to
+    -- bounds-to-i
     (λ c. search turn)
-    -- add-i
+    -- overflow_add-i
     (λ c. search turn)
-    -- loop-less
+    -- loop-i-smaller
     (λ c. search turn)
-    -- loop-again
+    -- loop-i-preserved
     (λ c. search turn)
-    -- same-length
+    -- shape_of-to
     (λ c. search turn)
     -- returns
     (λ c. search turn))

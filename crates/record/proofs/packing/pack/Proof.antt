@@ -25,29 +25,29 @@ pack_spec =
     (tie.spec
     invariant-loop-i
     decreases-loop-i
-    -- mul-bytes
+    -- overflow_mul-bytes
     (λ c. search turn)
-    -- cast-bytes
+    -- overflow_cast-bytes
     (λ c. search turn)
-    -- slice-write-bytes
+    -- bounds-bytes-0
     (λ c. search turn)
-    -- loop-holds
+    -- loop-i-init
     (λ c. search turn)
-    -- sub-byte
+    -- overflow_sub-i
     (λ c. search turn)
-    -- mul-byte
+    -- overflow_mul-i
     (λ c. search turn)
     -- byte-requires
     (λ c κs. search turn)
-    -- slice-write-bytes-2
+    -- bounds-bytes-i
     (λ c. search turn)
-    -- add-i
+    -- overflow_add-i
     (λ c. search turn)
-    -- loop-less
+    -- loop-i-smaller
     (λ c. search turn)
-    -- loop-again
+    -- loop-i-preserved
     (λ c. search turn)
-    -- same-length
+    -- shape_of-bytes
     (λ c. search turn)
     -- returns
     (λ c. search turn))

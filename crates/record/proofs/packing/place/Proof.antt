@@ -11,9 +11,9 @@ pub place_spec : {M : Type 1} → statement M
 place_spec =
     tie.close
     (tie.spec
-    -- shared-slice-read-result
+    -- bounds-places-i
+    (λ c. search turn)
+    -- returns-then-i-places
     (λ c. search turn)
     -- returns
-    (λ c. search turn)
-    -- returns-2
     (λ c. search turn))

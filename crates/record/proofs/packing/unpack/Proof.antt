@@ -23,27 +23,27 @@ unpack_spec =
     (tie.spec
     invariant-loop-i
     decreases-loop-i
-    -- loop-holds
+    -- loop-i-init
     (λ c. search turn)
-    -- add-places
+    -- overflow_add-places
     (λ c. search turn)
-    -- shared-slice-read-places
+    -- bounds-bytes-i
     (λ c. search turn)
-    -- sub-places
+    -- overflow_sub-places
     (λ c. search turn)
-    -- cast-places
+    -- overflow_cast-places
     (λ c. search turn)
-    -- shr-places
+    -- overflow_shr-places
     (λ c. search turn)
-    -- slice-write-places
+    -- bounds-places-i
     (λ c. search turn)
-    -- add-i
+    -- overflow_add-i
     (λ c. search turn)
-    -- loop-less
+    -- loop-i-smaller
     (λ c. search turn)
-    -- loop-again
+    -- loop-i-preserved
     (λ c. search turn)
-    -- same-length
+    -- shape_of-places
     (λ c. search turn)
     -- returns
     (λ c. search turn))

@@ -17,21 +17,21 @@ whole_byte_spec =
     (tie.spec
     invariant-loop-i
     decreases-loop-i
-    -- loop-holds
+    -- loop-i-init
     (λ c. search reading)
-    -- add-loop
+    -- overflow_add-from
     (λ c. search reading)
-    -- mul-byte
+    -- overflow_mul-byte
     (λ c. search reading)
-    -- shared-slice-read-byte
+    -- bounds-places-i
     (λ c. search reading)
-    -- add-byte
+    -- overflow_add-byte
     (λ c. search reading)
-    -- add-i
+    -- overflow_add-i
     (λ c. search reading)
-    -- loop-less
+    -- loop-i-smaller
     (λ c. search reading)
-    -- loop-again
+    -- loop-i-preserved
     (λ c. search reading)
     -- returns
     (λ c. search reading))

@@ -12,13 +12,13 @@ start_spec =
     (tie.spec
     -- range-requires
     (λ c κs. search starts)
-    -- enum-known-refusal
+    -- enum_known-refusal
     (λ c. search starts)
-    -- enum-told
+    -- enum_told-1
     (λ c. search starts)
-    -- places-at-requires
+    -- places_at-places-requires
     (λ c κs. search starts)
-    -- returns
+    -- returns-in-Refused
     (λ c. search starts)
-    -- returns-2
+    -- returns-in-Done
     (λ c. search starts))

@@ -8,41 +8,41 @@ pub step_spec : {M : Type 1} → statement M
 step_spec =
     tie.close
     (tie.spec
-    -- slice-aggregate-belongs
+    -- slice_bounds-belongs-end
     (λ c. search steps)
     -- belongs-requires
     (λ c κs. search steps)
     -- stays-requires
     (λ c κs. search steps)
-    -- returns
+    -- returns-then-not-belongs
     (λ c. stays_answers _ _ _ tt c.stays.ensures (search steps))
-    -- stays-requires-2
+    -- stays-requires-then-self
     (λ c κs. search steps)
-    -- returns-2
+    -- returns-then-self
     (λ c. stays_answers _ _ _ tt c.stays-then-self.ensures (search steps))
-    -- mul-change
+    -- overflow_mul-size
     (λ c. search steps)
-    -- sub-change
+    -- slice_bounds-change-count
     (λ c. search steps)
-    -- part-change-start
+    -- slice_bounds-change-start
     (λ c. search steps)
-    -- part-change-end
+    -- slice_bounds-change-end
     (λ c. search steps)
-    -- change-requires
+    -- change-change-requires
     (λ c κs. search steps)
-    -- sub-if3
+    -- overflow_sub-change
     (λ c. search steps)
-    -- stays-requires-3
+    -- stays-requires-then-self-change
     (λ c κs. search steps)
-    -- returns-3
+    -- returns-then-self-change
     (λ c.
     stays_answers _ _ _ tt c.stays-then-self-change.ensures (figure_refused _ _ c.belongs.ensures (search steps) (search steps) _ c.change-change.ensures (search steps)))
-    -- places-after-requires
+    -- places_after-after-requires
     (λ c κs. search steps)
-    -- add-self
+    -- overflow_add-self
     (λ c. search steps)
-    -- add-self-2
+    -- overflow_add-self-2
     (λ c. search steps)
-    -- returns-4
+    -- returns
     (λ c.
     handed_answers _ _ c.belongs.ensures (search steps) (search steps) _ c.change-change.ensures (search steps) _ c.places_after-after.ensures))

@@ -10,31 +10,31 @@ belongs_spec =
     (tie.spec
     -- range-requires
     (λ c κs. search tests)
-    -- enum-told
+    -- enum_told-1
     (λ c. search tests)
-    -- enum-told-2
+    -- enum_told-in-Done
     (λ c. search tests)
     -- clear-requires
     (λ c κs. search tests)
-    -- returns
+    -- returns-then-next-end
     (λ c. search tests)
-    -- mul-clear
+    -- overflow_mul-size
     (λ c. search tests)
-    -- clear-requires-2
+    -- clear-requires-in-Done
     (λ c κs. search tests)
-    -- returns-2
+    -- returns-then-not-clear
     (λ c. search tests)
-    -- mul-numbered
+    -- overflow_mul-size-in-Done
     (λ c. search tests)
-    -- sub-numbered
+    -- slice_bounds-numbered-count
     (λ c. search tests)
-    -- part-numbered-start
+    -- slice_bounds-numbered-start
     (λ c. search tests)
-    -- part-numbered-end
+    -- slice_bounds-numbered-end
     (λ c. search tests)
     -- numbered-requires
     (λ c κs. search tests)
-    -- returns-3
+    -- returns-in-Refused
     (λ c. search tests)
-    -- returns-4
+    -- returns-else-not-clear
     (λ c. search tests))

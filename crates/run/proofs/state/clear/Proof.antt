@@ -21,19 +21,19 @@ clear_spec =
     (tie.spec
     invariant-loop-i
     decreases-loop-i
-    -- loop-holds
+    -- loop-i-init
     (λ c. search turn)
-    -- shared-slice-read-sum
+    -- bounds-places-i
     (λ c. search turn)
-    -- cast-sum
+    -- overflow_cast-sum
     (λ c. search turn)
-    -- add-sum
+    -- overflow_add-sum
     (λ c. search turn)
-    -- add-i
+    -- overflow_add-i
     (λ c. search turn)
-    -- loop-less
+    -- loop-i-smaller
     (λ c. search turn)
-    -- loop-again
+    -- loop-i-preserved
     (λ c. search turn)
     -- returns
     (λ c. search turn))

@@ -10,11 +10,11 @@ numbered_spec =
     (tie.spec
     -- number-requires
     (λ c κs. search tests)
-    -- enum-told
+    -- enum_told-1
     (λ c. search tests)
-    -- enum-known-found
+    -- enum_known-found
     (λ c. search tests)
-    -- returns
+    -- returns-in-Refused
     (λ c. search tests)
-    -- returns-2
+    -- returns-in-Value
     (λ c. search tests))

@@ -8,19 +8,19 @@ pub places_after_spec : {M : Type 1} → statement M
 places_after_spec =
     tie.close
     (tie.spec
-    -- add-if1
+    -- overflow_add-next
     (λ c. search starts)
-    -- returns
+    -- returns-then-next-end
     (λ c. search starts)
-    -- mul-next
+    -- overflow_mul-size
     (λ c. search starts)
-    -- sub-next
+    -- slice_bounds-next-count
     (λ c. search starts)
-    -- part-places-start
+    -- slice_bounds-places-start
     (λ c. search starts)
-    -- part-places-end
+    -- slice_bounds-places-end
     (λ c. search starts)
     -- next-requires
     (λ c κs. search starts)
-    -- returns-2
+    -- returns
     (λ c. search starts))

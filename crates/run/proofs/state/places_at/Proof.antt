@@ -8,17 +8,17 @@ pub places_at_spec : {M : Type 1} → statement M
 places_at_spec =
     tie.close
     (tie.spec
-    -- mul-shape
+    -- overflow_mul-size
     (λ c. search starts)
-    -- sub-shape
+    -- slice_bounds-shape-count
     (λ c. search starts)
-    -- part-places-start
+    -- slice_bounds-places-start
     (λ c. search starts)
-    -- part-places-end
+    -- slice_bounds-places-end
     (λ c. search starts)
     -- shape-requires
     (λ c κs. search starts)
-    -- returns
+    -- returns-then-next-end
     (λ c. search starts)
-    -- returns-2
+    -- returns-else-next-end
     (λ c. search starts))

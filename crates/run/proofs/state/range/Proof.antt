@@ -8,15 +8,15 @@ pub range_spec : {M : Type 1} → statement M
 range_spec =
     tie.close
     (tie.spec
-    -- returns
+    -- returns-then-size-eq0
     (λ c. search tests)
-    -- returns-2
+    -- returns-then-size-gt35
     (λ c. search tests)
-    -- returns-3
+    -- returns-then-first-end
     (λ c. search tests)
     -- catalan-requires
     (λ c κs. search tests)
-    -- returns-4
+    -- returns-then-end-catalan
     (λ c. search tests)
-    -- returns-5
+    -- returns
     (λ c. search tests))

@@ -16,25 +16,25 @@ steps_spec =
     (tie.spec
     invariant-loop-at
     decreases-loop-at
-    -- step-requires
+    -- step-last-requires
     (λ c κs. search rules)
-    -- loop-holds
+    -- loop-at-init
     (λ c. search rules)
-    -- rest-requires
+    -- rest-listed-requires
     (λ c κs. search rules)
-    -- goes-on-requires
+    -- goes_on-requires
     (λ c κs. search rules)
+    -- returns-then-not-goes_on
+    (λ c. search rules)
+    -- overflow_add-at
+    (λ c. search rules)
+    -- handed-left-requires
+    (λ c κs. search rules)
+    -- step-last-requires-in-loop-at
+    (λ c κs. search rules)
+    -- loop-at-smaller
+    (λ c. search rules)
+    -- loop-at-preserved
+    (λ c. search rules)
     -- returns
-    (λ c. search rules)
-    -- add-at
-    (λ c. search rules)
-    -- handed-requires
-    (λ c κs. search rules)
-    -- step-requires-2
-    (λ c κs. search rules)
-    -- loop-less
-    (λ c. search rules)
-    -- loop-again
-    (λ c. search rules)
-    -- returns-2
     (λ c. search rules))

@@ -21,23 +21,23 @@ put_spec =
     (tie.spec
     invariant-loop-left
     decreases-loop-left
-    -- loop-holds
+    -- loop-left-init
     (λ c. search rules)
-    -- same-length
+    -- shape_of-bytes-then-end-bytes
+    (λ c. search rules)
+    -- returns-then-end-bytes
+    (λ c. prefix_len_of_le _ _ (omega arith))
+    -- bounds-bytes-end
+    (λ c. search rules)
+    -- overflow_add-end
+    (λ c. search rules)
+    -- overflow_sub-left
+    (λ c. search rules)
+    -- loop-left-smaller
+    (λ c. search rules)
+    -- loop-left-preserved
+    (λ c. search rules)
+    -- shape_of-bytes
     (λ c. search rules)
     -- returns
-    (λ c. prefix_len_of_le _ _ (omega arith))
-    -- slice-write-bytes
-    (λ c. search rules)
-    -- add-end
-    (λ c. search rules)
-    -- sub-left
-    (λ c. search rules)
-    -- loop-less
-    (λ c. search rules)
-    -- loop-again
-    (λ c. search rules)
-    -- same-length-2
-    (λ c. search rules)
-    -- returns-2
     (λ c. prefix_len_of_le _ _ (omega arith)))

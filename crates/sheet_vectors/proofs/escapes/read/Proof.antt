@@ -21,31 +21,31 @@ read_spec =
     (tie.spec
     invariant-loop-i
     decreases-loop-i
-    -- loop-holds
+    -- loop-i-init
     (λ c. search rules)
-    -- sub-first
+    -- slice_bounds-first-count
     (λ c. search rules)
-    -- part-first-start
+    -- slice_bounds-first-start
     (λ c. search rules)
-    -- part-first-end
+    -- slice_bounds-first-end
     (λ c. search rules)
-    -- first-requires
+    -- first-shown-requires
     (λ c κs. search rules)
-    -- put-requires
+    -- put-count-requires
     (λ c κs. search rules)
-    -- sub-if1
+    -- overflow_sub-text
     (λ c. search rules)
-    -- same-length
+    -- shape_of-bytes-then-shown-text
+    (λ c. search rules)
+    -- returns-then-shown-text
+    (λ c. prefix_len_of_le _ _ (omega arith))
+    -- overflow_add-i
+    (λ c. search rules)
+    -- loop-i-smaller
+    (λ c. search rules)
+    -- loop-i-preserved
+    (λ c. search rules)
+    -- shape_of-bytes
     (λ c. search rules)
     -- returns
-    (λ c. prefix_len_of_le _ _ (omega arith))
-    -- add-i
-    (λ c. search rules)
-    -- loop-less
-    (λ c. search rules)
-    -- loop-again
-    (λ c. search rules)
-    -- same-length-2
-    (λ c. search rules)
-    -- returns-2
     (λ c. prefix_len_of_le _ _ (omega arith)))

@@ -16,21 +16,21 @@ hand_out_spec =
     (tie.spec
     invariant-loop-turns
     decreases-loop-turns
-    -- loop-holds
+    -- loop-turns-init
     (λ c. search rules)
-    -- piece-requires
+    -- piece-filled-requires
     (λ c κs. search rules)
-    -- number-of-requires
+    -- number_of-requires
     (λ c κs. search rules)
-    -- returns
+    -- returns-then-number_of-eq0
     (λ c. search rules)
-    -- sub-turns
+    -- overflow_sub-turns
     (λ c. search rules)
-    -- loop-less
+    -- loop-turns-smaller
     (λ c. search rules)
-    -- loop-again
+    -- loop-turns-preserved
     (λ c. search rules)
     -- wrong-requires
     (λ c κs. search rules)
-    -- returns-2
+    -- returns
     (λ c. search rules))

@@ -18,17 +18,17 @@ untouched_spec =
     (tie.spec
     invariant-loop-i
     decreases-loop-i
-    -- loop-holds
+    -- loop-i-init
     (λ c. search rules)
-    -- shared-slice-read-if1
+    -- bounds-buffer-i
+    (λ c. search rules)
+    -- returns-then-buffer-i-ne-UNTOUCHED
+    (λ c. search rules)
+    -- overflow_add-i
+    (λ c. search rules)
+    -- loop-i-smaller
+    (λ c. search rules)
+    -- loop-i-preserved
     (λ c. search rules)
     -- returns
-    (λ c. search rules)
-    -- add-i
-    (λ c. search rules)
-    -- loop-less
-    (λ c. search rules)
-    -- loop-again
-    (λ c. search rules)
-    -- returns-2
     (λ c. search rules))

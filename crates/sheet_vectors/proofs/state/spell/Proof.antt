@@ -19,21 +19,21 @@ spell_spec =
     (tie.spec
     invariant-loop-i
     decreases-loop-i
-    -- loop-holds
+    -- loop-i-init
     (λ c. search rules)
-    -- slice-read-letter
+    -- bounds-places-i
     (λ c. search rules)
     -- letter-requires
     (λ c κs. search rules)
-    -- slice-write-places
+    -- bounds-places-i-in-loop-i
     (λ c. search rules)
-    -- add-i
+    -- overflow_add-i
     (λ c. search rules)
-    -- loop-less
+    -- loop-i-smaller
     (λ c. search rules)
-    -- loop-again
+    -- loop-i-preserved
     (λ c. search rules)
-    -- same-length
+    -- shape_of-places
     (λ c. search rules)
     -- returns
     (λ c. search rules))

@@ -21,35 +21,35 @@ count_up_spec =
     (tie.spec
     invariant-loop-i
     decreases-loop-i
-    -- loop-holds
+    -- loop-i-init
     (λ c. search turn)
-    -- sub-i
+    -- overflow_sub-i
     (λ c. search turn)
-    -- slice-read-if1
+    -- bounds-digits-i
     (λ c. search turn)
-    -- slice-read-digits
+    -- bounds-digits-i-then-digits-i-lt57
     (λ c. search turn)
-    -- add-digits
+    -- overflow_add-digits
     (λ c. search turn)
-    -- slice-write-digits
+    -- bounds-digits-i-then-digits-i-lt57-2
     (λ c. search turn)
-    -- same-length
+    -- shape_of-digits-then-digits-i-lt57
+    (λ c. search turn)
+    -- returns-then-digits-i-lt57
+    (λ c. (λ k e. search turn, (search turn, search turn)))
+    -- bounds-digits-i-in-loop-i
+    (λ c. search turn)
+    -- loop-i-smaller
+    (λ c. search turn)
+    -- loop-i-preserved
+    (λ c. search turn)
+    -- bounds-digits-width
+    (λ c. search turn)
+    -- bounds-digits-0
+    (λ c. rw length-set (omega (arith, c.before.loop-i.invariant.same)))
+    -- overflow_add-result
+    (λ c. search turn)
+    -- shape_of-digits
     (λ c. search turn)
     -- returns
-    (λ c. (λ k e. search turn, (search turn, search turn)))
-    -- slice-write-digits-2
-    (λ c. search turn)
-    -- loop-less
-    (λ c. search turn)
-    -- loop-again
-    (λ c. search turn)
-    -- slice-write-digits-3
-    (λ c. search turn)
-    -- slice-write-digits-4
-    (λ c. rw length-set (omega (arith, c.before.loop-i.invariant.same)))
-    -- add-result
-    (λ c. search turn)
-    -- same-length-2
-    (λ c. search turn)
-    -- returns-2
     (λ c. (λ k e. search turn, (search turn, search turn))))

@@ -25,31 +25,31 @@ put_bits_spec =
     (tie.spec
     invariant-loop-i
     decreases-loop-i
-    -- loop-holds
+    -- loop-i-init
     (λ c. search turn)
-    -- shared-slice-read-out
+    -- bounds-places-i
     (λ c. search turn)
-    -- add-out
+    -- overflow_add-out
     (λ c. omega (arith, c.before.before.before.requires.1 c.before.before.loop-i.i))
-    -- add-out-2
+    -- overflow_add-out-in-loop-i
     (λ c. search turn)
-    -- slice-write-out
+    -- bounds-out-at
     (λ c. search turn)
-    -- add-i
+    -- overflow_add-i
     (λ c. search turn)
-    -- loop-less
+    -- loop-i-smaller
     (λ c. search turn)
-    -- loop-again
+    -- loop-i-preserved
     (λ c. search turn)
-    -- add-out-3
+    -- overflow_add-out-2
     (λ c. search turn)
-    -- slice-write-out-2
+    -- bounds-out-at-2
     (λ c. search turn)
-    -- add-result
+    -- overflow_add-result
     (λ c. search turn)
-    -- add-result-2
+    -- overflow_add-result-2
     (λ c. search turn)
-    -- same-length
+    -- shape_of-out
     (λ c. search turn)
     -- returns
     (λ c. search turn))

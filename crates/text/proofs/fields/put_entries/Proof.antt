@@ -22,43 +22,43 @@ put_entries_spec =
     (tie.spec
     invariant-loop-i
     decreases-loop-i
-    -- words-requires
+    -- words-words-requires
     (λ c κs. search turn)
-    -- sub-last
+    -- overflow_sub-last
     (λ c. search turn)
-    -- loop-holds
+    -- loop-i-init
     (λ c. search turn)
-    -- mul-put-label
+    -- offset_bounds-entries-i
     (λ c. search turn)
-    -- shared-slice-read-put-label
+    -- bounds-entries-i
     (λ c. search turn)
-    -- cast-put-label
+    -- overflow_cast-entries
     (λ c. omega (arith, c.before.before.before.before.before.before.requires.2 c.before.before.loop-i.i))
-    -- mul-put-label-2
+    -- offset_bounds-words-entries
     (λ c. omega (arith, c.before.before.before.before.before.before.requires.2 c.before.before.loop-i.i))
-    -- array-read-put-label
+    -- bounds-words-entries
     (λ c. c.before.before.before.before.before.before.requires.2 c.before.before.loop-i.i)
-    -- put-label-requires
+    -- put_label-at-requires
     (λ c κs. search turn)
-    -- add-i
+    -- overflow_add-i
     (λ c. search turn)
-    -- loop-less
+    -- loop-i-smaller
     (λ c. search turn)
-    -- loop-again
+    -- loop-i-preserved
     (λ c. search turn)
-    -- mul-put-small
+    -- offset_bounds-entries-last
     (λ c. search turn)
-    -- shared-slice-read-put-small
+    -- bounds-entries-last
     (λ c. search turn)
-    -- cast-put-small
+    -- overflow_cast-entries-2
     (λ c.
     let q = c.before.before.before.before.before.before.args.entries.now in
     omega (arith, c.before.before.before.before.before.before.requires.2 (length q - 1)))
-    -- put-small-requires
+    -- put_small-requires
     (λ c κs.
     let q = c.before.before.before.before.before.before.before.args.entries.now in
     (c.before.before.before.before.before.before.before.requires.2 (length q - 1), search turn))
-    -- same-length
+    -- shape_of-out
     (λ c. search turn)
     -- returns
     (λ c. search turn))

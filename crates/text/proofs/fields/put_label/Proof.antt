@@ -13,33 +13,33 @@ pub put_label_spec : {M : Type 1} → statement M
 put_label_spec =
     tie.close
     (tie.spec
-    -- cast-out
+    -- overflow_cast-out
     (λ c. search turn)
-    -- slice-write-out
+    -- bounds-out-at
     (λ c. search turn)
-    -- cast-out-2
+    -- overflow_cast-out-2
     (λ c. search turn)
-    -- add-out
+    -- overflow_add-out
     (λ c. search turn)
-    -- slice-write-out-2
+    -- bounds-out-at-2
     (λ c. simp length-set (omega (arith, c.requires)))
-    -- cast-out-3
+    -- overflow_cast-out-3
     (λ c. search turn)
-    -- add-out-2
+    -- overflow_add-out-2
     (λ c. search turn)
-    -- slice-write-out-3
+    -- bounds-out-at-3
     (λ c. simp length-set (omega (arith, c.requires)))
-    -- cast-out-4
+    -- overflow_cast-out-4
     (λ c. search turn)
-    -- add-out-3
+    -- overflow_add-out-3
     (λ c. search turn)
-    -- slice-write-out-4
+    -- bounds-out-at-4
     (λ c. search turn)
-    -- cast-result
+    -- overflow_cast-result
     (λ c. search turn)
-    -- add-result
+    -- overflow_add-result
     (λ c. search turn)
-    -- same-length
+    -- shape_of-out
     (λ c. search turn)
     -- returns
     (λ c. search turn))

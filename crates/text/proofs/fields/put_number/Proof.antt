@@ -11,15 +11,15 @@ pub put_number_spec : {M : Type 1} → statement M
 put_number_spec =
     tie.close
     (tie.spec
-    -- decimal-requires
+    -- decimal-width-requires
     (λ c κs. search turn)
-    -- array-share-prefix-digits
+    -- slice_bounds-digits-end
     (λ c. search turn)
-    -- slice-aggregate-put-text
+    -- slice_bounds-put_text-end
     (λ c. search turn)
-    -- put-text-requires
+    -- put_text-requires
     (λ c κs. search turn)
-    -- same-length
+    -- shape_of-out
     (λ c. search turn)
     -- returns
     (λ c. search turn))

@@ -14,29 +14,29 @@ pub put_small_spec : {M : Type 1} → statement M
 put_small_spec =
     tie.close
     (tie.spec
-    -- cast-units
+    -- overflow_cast-units
     (λ c. search turn)
-    -- add-units
+    -- overflow_add-units
     (λ c. omega (arith, tens_most (ltb 9 c.args.number), c.requires))
-    -- cast-out
+    -- overflow_cast-out
     (λ c. search turn)
-    -- add-out
+    -- overflow_add-out
     (λ c. search turn)
-    -- slice-write-out
+    -- bounds-out-at
     (λ c. search turn)
-    -- cast-out-2
+    -- overflow_cast-out-2
     (λ c. search turn)
-    -- add-out-2
+    -- overflow_add-out-2
     (λ c. search turn)
-    -- slice-write-out-2
+    -- bounds-out-units
     (λ c. rw length-set (omega (arith, tens_most (ltb 9 c.args.number), c.requires)))
-    -- add-out-3
+    -- overflow_add-out-3
     (λ c. omega (arith, tens_most (ltb 9 c.args.number), c.requires))
-    -- slice-write-out-3
+    -- bounds-out-units-2
     (λ c. simp length-set (omega (arith, tens_most (ltb 9 c.args.number), c.requires)))
-    -- add-result
+    -- overflow_add-result
     (λ c. omega (arith, tens_most (ltb 9 c.args.number), c.requires))
-    -- same-length
+    -- shape_of-out
     (λ c. search turn)
     -- returns
     (λ c. search turn))

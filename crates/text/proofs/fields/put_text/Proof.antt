@@ -23,29 +23,29 @@ put_text_spec =
     (tie.spec
     invariant-loop-i
     decreases-loop-i
-    -- loop-holds
+    -- loop-i-init
     (λ c. search turn)
-    -- shared-slice-read-out
+    -- bounds-text-i
     (λ c. search turn)
-    -- add-out
+    -- overflow_add-out
     (λ c. search turn)
-    -- slice-write-out
+    -- bounds-out-at
     (λ c. search turn)
-    -- add-i
+    -- overflow_add-i
     (λ c. search turn)
-    -- loop-less
+    -- loop-i-smaller
     (λ c. search turn)
-    -- loop-again
+    -- loop-i-preserved
     (λ c. search turn)
-    -- add-out-2
+    -- overflow_add-out-2
     (λ c. search turn)
-    -- slice-write-out-2
+    -- bounds-out-at-2
     (λ c. search turn)
-    -- add-result
+    -- overflow_add-result
     (λ c. search turn)
-    -- add-result-2
+    -- overflow_add-result-2
     (λ c. search turn)
-    -- same-length
+    -- shape_of-out
     (λ c. search turn)
     -- returns
     (λ c. search turn))

@@ -23,21 +23,21 @@ digits_end_spec =
     (tie.spec
     invariant-loop-i
     decreases-loop-i
-    -- loop-holds
+    -- loop-i-init
     (λ c. search turn)
-    -- shared-slice-read-if1
+    -- bounds-text-i
+    (λ c. search turn)
+    -- returns-then-text-i-lt48
+    (λ c. search turn)
+    -- bounds-text-i-in-loop-i
+    (λ c. search turn)
+    -- returns-then-text-i-gt57
+    (λ c. search turn)
+    -- overflow_add-i
+    (λ c. search turn)
+    -- loop-i-smaller
+    (λ c. search turn)
+    -- loop-i-preserved
     (λ c. search turn)
     -- returns
-    (λ c. search turn)
-    -- shared-slice-read-if2
-    (λ c. search turn)
-    -- returns-2
-    (λ c. search turn)
-    -- add-i
-    (λ c. search turn)
-    -- loop-less
-    (λ c. search turn)
-    -- loop-again
-    (λ c. search turn)
-    -- returns-3
     (λ c. search turn))

@@ -12,40 +12,40 @@ pub field_spec : {M : Type 1} → statement M
 field_spec =
     tie.close
     (tie.spec
-    -- digits-end-requires
+    -- digits_end-behind-requires
     (λ c κs. search tests)
-    -- sub-digits
+    -- slice_bounds-digits-count
     (λ c. search tests)
-    -- part-digits-start
+    -- slice_bounds-digits-start
     (λ c. search tests)
-    -- part-digits-end
+    -- slice_bounds-digits-end
     (λ c. search tests)
-    -- in-form-requires
+    -- in_form-requires
     (λ c κs. search tests)
-    -- no-field-requires
+    -- no_field-requires
     (λ c κs. search tests)
-    -- returns
+    -- returns-then-not-in_form
     (λ c.
     refused c.no_field.ensures
     (field_unformed _ _ _ c.requires c.digits_end-behind.ensures _ _ c.in_form.ensures c.if-not-in_form.true-raw))
-    -- no-field-requires-2
+    -- no_field-requires-then-behind-text
     (λ c κs. search tests)
-    -- returns-2
+    -- returns-then-behind-text
     (λ c.
     refused c.no_field-then-behind-text.ensures (field_ended _ _ _ c.requires c.digits_end-behind.ensures _ c.if-behind-text.true))
-    -- shared-slice-read-if3
+    -- bounds-text-behind
     (λ c. search tests)
-    -- no-field-requires-3
+    -- no_field-requires-then-text-behind
     (λ c κs. search tests)
-    -- returns-3
+    -- returns-then-text-behind
     (λ c.
     refused c.no_field-then-text-behind.ensures
     (field_other _ _ _ c.requires c.digits_end-behind.ensures c.if-behind-text.false _ c.if-text-behind.true))
-    -- add-number
+    -- overflow_add-behind
     (λ c. search tests)
     -- number-requires
     (λ c κs. search tests)
-    -- returns-4
+    -- returns
     (λ c.
     let low = c.requires in
     let at = c.digits_end-behind.ensures in

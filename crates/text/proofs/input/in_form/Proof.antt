@@ -11,11 +11,11 @@ pub in_form_spec : {M : Type 1} → statement M
 in_form_spec =
     tie.close
     (tie.spec
+    -- returns-then-digits-eq0
+    (λ c. search form)
+    -- returns-then-digits-eq1
+    (λ c. search form)
+    -- bounds-digits-0
+    (λ c. search form)
     -- returns
-    (λ c. search form)
-    -- returns-2
-    (λ c. search form)
-    -- shared-slice-read-result
-    (λ c. search form)
-    -- returns-3
     (λ c. search form))

@@ -25,29 +25,29 @@ number_spec =
     (tie.spec
     invariant-loop-i
     decreases-loop-i
-    -- loop-holds
+    -- loop-i-init
     (λ c. search turn)
-    -- shared-slice-read-digit
+    -- bounds-digits-i
     (λ c. search turn)
-    -- sub-digit
+    -- overflow_sub-digit
     (λ c. search turn)
-    -- cast-digit
+    -- overflow_cast-digit
     (λ c. search turn)
-    -- sub-if1
+    -- overflow_sub-digit-in-loop-i
     (λ c. search turn)
-    -- no-field-requires
+    -- no_field-requires
     (λ c κs. search turn)
-    -- returns
+    -- returns-then-value-digit
     (λ c. (search turn, (unread c.no_field.ensures, unread c.no_field.ensures)))
-    -- mul-value
+    -- overflow_mul-value
     (λ c. search turn)
-    -- add-value
+    -- overflow_add-value
     (λ c. search turn)
-    -- add-i
+    -- overflow_add-i
     (λ c. search turn)
-    -- loop-less
+    -- loop-i-smaller
     (λ c. search turn)
-    -- loop-again
+    -- loop-i-preserved
     (λ c. search turn)
-    -- returns-2
+    -- returns
     (λ c. search turn))

@@ -9,27 +9,27 @@ pub read_spec : {M : Type 1} → statement M
 read_spec =
     tie.close
     (tie.spec
-    -- field-requires
+    -- field-size-requires
     (λ c κs. search rules)
     -- nothing-requires
     (λ c κs. search rules)
-    -- returns
+    -- returns-then-not-size
     (λ c. refused c.nothing.ensures (read_size _ (field_unread _ _ _ c.before.before.before.field-size.ensures c.before.if-not-size.true)))
-    -- field-requires-2
+    -- field-first-requires
     (λ c κs. (field_read _ _ _ c.before.before.field-size.ensures c.if-not-size.false).within)
-    -- nothing-requires-2
+    -- nothing-requires-then-not-first
     (λ c κs. search rules)
-    -- returns-2
+    -- returns-then-not-first
     (λ c.
     let one = c.before.before.before.before in
     refused c.nothing-then-not-first.ensures
     (read_first (field_read _ _ _ one.before.before.field-size.ensures one.if-not-size.false)
     (field_unread _ _ _ c.before.before.before.field-first.ensures c.before.if-not-first.true)))
-    -- field-requires-3
+    -- field-end-requires
     (λ c κs. (field_read _ _ _ c.before.before.field-first.ensures c.if-not-first.false).within)
-    -- nothing-requires-3
+    -- nothing-requires-then-not-end
     (λ c κs. search rules)
-    -- returns-3
+    -- returns-then-not-end
     (λ c.
     let two = c.before.before.before.before in
     let one = two.before.before.before in
@@ -38,9 +38,9 @@ read_spec =
     (field_read _ _ _ one.before.before.field-size.ensures one.if-not-size.false)
     (field_read _ _ _ two.before.before.field-first.ensures two.if-not-first.false)
     (field_unread _ _ _ c.before.before.before.field-end.ensures c.before.if-not-end.true)))
-    -- nothing-requires-4
+    -- nothing-requires-then-end-input
     (λ c κs. search rules)
-    -- returns-4
+    -- returns-then-end-input
     (λ c.
     let three = c.before.before.before in
     let two = three.before.before.before in
@@ -51,7 +51,7 @@ read_spec =
     (field_read _ _ _ two.before.before.field-first.ensures two.if-not-first.false)
     (field_read _ _ _ three.before.before.field-end.ensures three.if-not-end.false)
     c.before.if-end-input.true))
-    -- returns-5
+    -- returns
     (λ c.
     let three = c.before.before in
     let two = three.before.before.before in

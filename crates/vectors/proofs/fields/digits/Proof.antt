@@ -18,27 +18,27 @@ digits_spec =
     (tie.spec
     invariant-loop-i
     decreases-loop-i
-    -- loop-init
+    -- loop-i-init
     (λ c. search rules)
-    -- shared-slice-read-place
+    -- bounds-text-i
     (λ c. search rules)
-    -- place-requires
+    -- place-digit-requires
     (λ c κs. search rules)
-    -- cast-digit
+    -- overflow_cast-digit
     (λ c. search rules)
-    -- sub-if1
+    -- overflow_sub-digit
+    (λ c. search rules)
+    -- returns-then-value-digit
+    (λ c. search rules)
+    -- overflow_mul-value
+    (λ c. search rules)
+    -- overflow_add-value
+    (λ c. search rules)
+    -- overflow_add-i
+    (λ c. search rules)
+    -- loop-i-smaller
+    (λ c. search rules)
+    -- loop-i-preserved
     (λ c. search rules)
     -- returns
-    (λ c. search rules)
-    -- mul-value
-    (λ c. search rules)
-    -- add-value
-    (λ c. search rules)
-    -- add-i
-    (λ c. search rules)
-    -- loop-smaller
-    (λ c. search rules)
-    -- loop-preserved
-    (λ c. search rules)
-    -- returns-2
     (λ c. search rules))

@@ -18,17 +18,17 @@ end_of_spec =
     (tie.spec
     invariant-loop-i
     decreases-loop-i
-    -- loop-init
+    -- loop-i-init
     (λ c. search rules)
-    -- shared-slice-read-if1
+    -- bounds-text-i
+    (λ c. search rules)
+    -- returns-then-text-i
+    (λ c. search rules)
+    -- overflow_add-i
+    (λ c. search rules)
+    -- loop-i-smaller
+    (λ c. search rules)
+    -- loop-i-preserved
     (λ c. search rules)
     -- returns
-    (λ c. search rules)
-    -- add-i
-    (λ c. search rules)
-    -- loop-smaller
-    (λ c. search rules)
-    -- loop-preserved
-    (λ c. search rules)
-    -- returns-2
     (λ c. search rules))

@@ -18,21 +18,21 @@ kind_spec =
     (tie.spec
     invariant-loop-k
     decreases-loop-k
-    -- field-requires
+    -- field-name-requires
     (λ c κs. search rules)
-    -- loop-init
+    -- loop-k-init
     (λ c. search rules)
-    -- field-requires-2
+    -- field-requires
     (λ c κs. search rules)
     -- same-requires
     (λ c κs. search rules)
+    -- returns-then-same
+    (λ c. search rules)
+    -- overflow_add-k
+    (λ c. search rules)
+    -- loop-k-smaller
+    (λ c. search rules)
+    -- loop-k-preserved
+    (λ c. search rules)
     -- returns
-    (λ c. search rules)
-    -- add-k
-    (λ c. search rules)
-    -- loop-smaller
-    (λ c. search rules)
-    -- loop-preserved
-    (λ c. search rules)
-    -- returns-2
     (λ c. search rules))

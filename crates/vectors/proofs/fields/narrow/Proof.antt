@@ -21,27 +21,27 @@ narrow_spec =
     (tie.spec
     invariant-loop-k
     decreases-loop-k
-    -- loop-init
+    -- loop-k-init
     (λ c. search rules)
-    -- same-length
+    -- shape_of-bytes-then-k-bytes
     (λ c. search rules)
-    -- returns
+    -- returns-then-k-bytes
     (λ c. prefix_len_of_le _ _ (omega arith))
-    -- mul-byte
+    -- offset_bounds-entries-k
     (λ c. search rules)
-    -- shared-slice-read-byte
+    -- bounds-entries-k
     (λ c. search rules)
     -- byte-requires
     (λ c κs. search rules)
-    -- slice-write-bytes
+    -- bounds-bytes-k
     (λ c. search rules)
-    -- add-k
+    -- overflow_add-k
     (λ c. search rules)
-    -- loop-smaller
+    -- loop-k-smaller
     (λ c. search rules)
-    -- loop-preserved
+    -- loop-k-preserved
     (λ c. search rules)
-    -- same-length-2
+    -- shape_of-bytes
     (λ c. search rules)
-    -- returns-2
+    -- returns
     (λ c. prefix_len_of_le _ _ (omega arith)))

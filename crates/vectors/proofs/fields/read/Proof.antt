@@ -23,27 +23,27 @@ read_spec =
     decreases-loop-i
     -- same-requires
     (λ c κs. search rules)
-    -- returns
+    -- returns-then-same
     (λ c. search rules)
-    -- loop-init
+    -- loop-i-init
     (λ c. search rules)
-    -- same-length
+    -- shape_of-places-then-i-places
     (λ c. search rules)
-    -- returns-2
+    -- returns-then-i-places
     (λ c. prefix_len_of_le _ _ (omega arith))
-    -- shared-slice-read-place
+    -- bounds-text-i
     (λ c. search rules)
     -- place-requires
     (λ c κs. search rules)
-    -- slice-write-places
+    -- bounds-places-i
     (λ c. search rules)
-    -- add-i
+    -- overflow_add-i
     (λ c. search rules)
-    -- loop-smaller
+    -- loop-i-smaller
     (λ c. search rules)
-    -- loop-preserved
+    -- loop-i-preserved
     (λ c. search rules)
-    -- same-length-2
+    -- shape_of-places
     (λ c. search rules)
-    -- returns-3
+    -- returns
     (λ c. prefix_len_of_le _ _ (omega arith)))

@@ -23,37 +23,37 @@ read_entries_spec =
     decreases-loop-start
     -- same-requires
     (λ c κs. search rules)
-    -- returns
+    -- returns-then-same
     (λ c. search rules)
-    -- loop-init
+    -- loop-start-init
     (λ c. search rules)
-    -- same-length
+    -- shape_of-entries-then-k-entries
     (λ c. search rules)
-    -- returns-2
+    -- returns-then-k-entries
     (λ c. prefix_len_of_le _ _ (omega arith))
-    -- end-of-requires
+    -- end_of-end-requires
     (λ c κs. search rules)
-    -- sub-entry
+    -- slice_bounds-entry-count
     (λ c. search rules)
-    -- part-entry-start
+    -- slice_bounds-entry-start
     (λ c. search rules)
-    -- part-entry-end
+    -- slice_bounds-entry-end
     (λ c. search rules)
     -- entry-requires
     (λ c κs. search rules)
-    -- mul-entries
+    -- offset_bounds-entries-k
     (λ c. search rules)
-    -- slice-write-entries
+    -- bounds-entries-k
     (λ c. search rules)
-    -- add-start
+    -- overflow_add-start
     (λ c. search rules)
-    -- add-k
+    -- overflow_add-k
     (λ c. search rules)
-    -- loop-smaller
+    -- loop-start-smaller
     (λ c. search rules)
-    -- loop-preserved
+    -- loop-start-preserved
     (λ c. search rules)
-    -- same-length-2
+    -- shape_of-entries
     (λ c. search rules)
-    -- returns-3
+    -- returns
     (λ c. prefix_len_of_le _ _ (omega arith)))

@@ -18,19 +18,19 @@ start_of_spec =
     (tie.spec
     invariant-loop-left
     decreases-loop-left
-    -- loop-init
+    -- loop-left-init
     (λ c. search rules)
-    -- end-of-requires
+    -- end_of-start-requires
     (λ c κs. search rules)
+    -- returns-then-start-line
+    (λ c. search rules)
+    -- overflow_add-start
+    (λ c. search rules)
+    -- overflow_sub-left
+    (λ c. search rules)
+    -- loop-left-smaller
+    (λ c. search rules)
+    -- loop-left-preserved
+    (λ c. search rules)
     -- returns
-    (λ c. search rules)
-    -- add-start
-    (λ c. search rules)
-    -- sub-left
-    (λ c. search rules)
-    -- loop-smaller
-    (λ c. search rules)
-    -- loop-preserved
-    (λ c. search rules)
-    -- returns-2
     (λ c. search rules))

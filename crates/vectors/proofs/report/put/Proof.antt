@@ -21,25 +21,25 @@ put_spec =
     (tie.spec
     invariant-loop-i
     decreases-loop-i
-    -- loop-init
+    -- loop-i-init
     (λ c. search rules)
-    -- same-length
+    -- shape_of-text-then-end-text
+    (λ c. search rules)
+    -- returns-then-end-text
+    (λ c. prefix_len_of_le _ _ (omega arith))
+    -- bounds-letters-i
+    (λ c. search rules)
+    -- bounds-text-end
+    (λ c. search rules)
+    -- overflow_add-end
+    (λ c. search rules)
+    -- overflow_add-i
+    (λ c. search rules)
+    -- loop-i-smaller
+    (λ c. search rules)
+    -- loop-i-preserved
+    (λ c. search rules)
+    -- shape_of-text
     (λ c. search rules)
     -- returns
-    (λ c. prefix_len_of_le _ _ (omega arith))
-    -- shared-slice-read-text
-    (λ c. search rules)
-    -- slice-write-text
-    (λ c. search rules)
-    -- add-end
-    (λ c. search rules)
-    -- add-i
-    (λ c. search rules)
-    -- loop-smaller
-    (λ c. search rules)
-    -- loop-preserved
-    (λ c. search rules)
-    -- same-length-2
-    (λ c. search rules)
-    -- returns-2
     (λ c. prefix_len_of_le _ _ (omega arith)))

@@ -23,29 +23,29 @@ spell_spec =
     decreases-loop-i
     -- put-requires
     (λ c κs. search rules)
-    -- same-length
+    -- shape_of-text-then-places-eq0
     (λ c. search rules)
-    -- returns
+    -- returns-then-places-eq0
     (λ c. search rules)
-    -- loop-init
+    -- loop-i-init
     (λ c. search rules)
-    -- same-length-2
+    -- shape_of-text-then-i-text
     (λ c. search rules)
-    -- returns-2
+    -- returns-then-i-text
     (λ c. prefix_len_of_le _ _ (omega arith))
-    -- shared-slice-read-letter
+    -- bounds-places-i
     (λ c. search rules)
     -- letter-requires
     (λ c κs. search rules)
-    -- slice-write-text
+    -- bounds-text-i
     (λ c. search rules)
-    -- add-i
+    -- overflow_add-i
     (λ c. search rules)
-    -- loop-smaller
+    -- loop-i-smaller
     (λ c. search rules)
-    -- loop-preserved
+    -- loop-i-preserved
     (λ c. search rules)
-    -- same-length-3
+    -- shape_of-text
     (λ c. search rules)
-    -- returns-3
+    -- returns
     (λ c. prefix_len_of_le _ _ (omega arith)))

@@ -23,31 +23,31 @@ spell_entries_spec =
     decreases-loop-k
     -- put-requires
     (λ c κs. search rules)
-    -- same-length
+    -- shape_of-text-then-entries-eq0
+    (λ c. search rules)
+    -- returns-then-entries-eq0
+    (λ c. search rules)
+    -- bounds-entries-0
+    (λ c. search rules)
+    -- put_decimal-at-requires
+    (λ c κs. search rules)
+    -- loop-k-init
+    (λ c. search rules)
+    -- put-at-requires
+    (λ c κs. search rules)
+    -- offset_bounds-entries-k
+    (λ c. search rules)
+    -- bounds-entries-k
+    (λ c. search rules)
+    -- put_decimal-at-requires-in-loop-k
+    (λ c κs. search rules)
+    -- overflow_add-k
+    (λ c. search rules)
+    -- loop-k-smaller
+    (λ c. search rules)
+    -- loop-k-preserved
+    (λ c. search rules)
+    -- shape_of-text
     (λ c. search rules)
     -- returns
-    (λ c. search rules)
-    -- shared-slice-read-put-decimal
-    (λ c. search rules)
-    -- put-decimal-requires
-    (λ c κs. search rules)
-    -- loop-init
-    (λ c. search rules)
-    -- put-requires-2
-    (λ c κs. search rules)
-    -- mul-put-decimal
-    (λ c. search rules)
-    -- shared-slice-read-put-decimal-2
-    (λ c. search rules)
-    -- put-decimal-requires-2
-    (λ c κs. search rules)
-    -- add-k
-    (λ c. search rules)
-    -- loop-smaller
-    (λ c. search rules)
-    -- loop-preserved
-    (λ c. search rules)
-    -- same-length-2
-    (λ c. search rules)
-    -- returns-2
     (λ c. prefix_len_of_le _ _ (omega arith)))

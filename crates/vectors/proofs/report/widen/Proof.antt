@@ -21,27 +21,27 @@ widen_spec =
     (tie.spec
     invariant-loop-k
     decreases-loop-k
-    -- loop-init
+    -- loop-k-init
     (λ c. search rules)
-    -- same-length
+    -- shape_of-entries-then-k-entries
     (λ c. search rules)
-    -- returns
+    -- returns-then-k-entries
     (λ c. prefix_len_of_le _ _ (omega arith))
-    -- shared-slice-read-wide
+    -- bounds-bytes-k
     (λ c. search rules)
     -- wide-requires
     (λ c κs. search rules)
-    -- mul-entries
+    -- offset_bounds-entries-k
     (λ c. search rules)
-    -- slice-write-entries
+    -- bounds-entries-k
     (λ c. search rules)
-    -- add-k
+    -- overflow_add-k
     (λ c. search rules)
-    -- loop-smaller
+    -- loop-k-smaller
     (λ c. search rules)
-    -- loop-preserved
+    -- loop-k-preserved
     (λ c. search rules)
-    -- same-length-2
+    -- shape_of-entries
     (λ c. search rules)
-    -- returns-2
+    -- returns
     (λ c. prefix_len_of_le _ _ (omega arith)))
