@@ -6,8 +6,9 @@
 --     previous_change, previous_pattern   one step back, with the change that it takes back; 0, and the pattern as it is, for the first
 --     end_numbered a b k p   p with its last places by their number: a word of a ones and b zeros
 --     moved_pattern          a move by a distance; the pattern as it is where that leads past an end
+--     nonzero k              a step's change as an answer: none where k is 0, which no change is
 -- Assumes nothing.
-use Rattle.std.specs.Prelude.{ℕ, zero, suc, ◌+◌, ◌-◌, cond, List, [], ◌∷◌, ◌++◌, length, take, ℤ, ◌==◌, nat_lt, slice_index}
+use Rattle.std.specs.Prelude.{Option, Some, None, ℕ, zero, suc, ◌+◌, ◌-◌, cond, List, [], ◌∷◌, ◌++◌, length, take, ℤ, ◌==◌, nat_lt, slice_index}
 use Rattle.catalan.specs.Count.{C}
 use Rattle.shape.specs.Number.{local_number, local_places, change}
 use Rattle.shape.specs.Numbering.{local, next, previous}
@@ -40,6 +41,10 @@ previous_change n p = cond (nat_lt 0 (local_number p)) (change n (local_number p
 
 unfoldable pub previous_pattern : ℕ → List ℕ → List ℕ
 previous_pattern n p = cond (nat_lt 0 (local_number p)) (previous (local n) p) p
+
+abbrev pub nonzero : ℕ → Option ℕ
+nonzero zero = None
+nonzero (suc k) = Some (suc k)
 
 -- The last places, a ones and b zeros, worked out from the number k; those before them stay.
 unfoldable pub end_numbered : ℕ → ℕ → ℕ → List ℕ → List ℕ
