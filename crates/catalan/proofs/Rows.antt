@@ -5,9 +5,8 @@
 --     rows_step                an entry of the next row is the one of this row and the next row's entry before it
 --     grow_..                  upward from the row of z to the row of z + 1: entry a gains the entry before it
 --     shrink_..                downward from the row of z to the row of z - 1: entry a loses the entry before it
---     clear_..                 upward, the row of no zeros over any list of 36 entries
 --     row_start                the row of no zeros is 1 and then zeros
---     fill_end_lem             the last of the rows that were grown is the one asked for
+--     growing, shrinking       what the proofs of `grow` and `shrink` use
 -- Of a loop: _begin is what holds at its start, _turn what one turn makes, _end what it leaves; _fits and _holds, that a turn's sum or
 -- difference does not wrap.
 -- Assumes nothing.
@@ -17,11 +16,10 @@ use Prim.Native.Nat.{ℕ, zero, suc, ◌+◌, ◌-◌, ◌≤◌, ◌<◌, ◌^�
 use native.Mathlib.Nat.{suc-sub-suc, sub-zero}
 use native.Mathlib.Omega.{arith}
 use lib.ListN.{length, get_or, set, replicate, length-set, length-replicate, get_or-replicate}
-use lib.Seq.{get_or-set_same, get_or-set_other}
 use mir.Syntax.{w64}
 use mir.Val.{Fits}
-use Rattle.catalan.specs.Count.{ways, words}
-use Rattle.catalan.specs.Table.{row_of}
+use Rattle.catalan.specs.Count.{binom, binom_before, ways, words}
+use Rattle.catalan.specs.Table.{tabulate, row_of}
 use Rattle.catalan.proofs.Counting.{ways_words, ways_none, ways_step, ways_fit}
 use Rattle.catalan.proofs.Tables.{length_tabulate, tabulate_at}
 use Rattle.catalan.proofs.Seams.{seam, seam_below, seam_at, seam_up, seam_down, seam_first, seam_whole}
@@ -93,61 +91,36 @@ module _ (z a : ℕ) (row : List ℕ) (e : row ≡ seam a (row_of (z + 1)) (row_
 pub shrink_begin : (z : ℕ) (row : List ℕ) → row ≡ row_of z → row ≡ seam (z + 1) (row_of z) (row_of (z - 1))
 shrink_begin z row e = e ∙ sym (seam_high (z - 1) z (z + 1) (omega arith) (omega arith))
 
-pub shrink_end : (z a : ℕ) (row : List ℕ) → row ≡ seam (a + 1) (row_of z) (row_of (z - 1)) → a ≤ 0 → row ≡ row_of (z - 1)
-shrink_end z a row e h = let none : a ≡ 0 = omega arith in e ∙ rw none (seam_low (z - 1) z)
+pub shrink_end : (z a : ℕ) (row : List ℕ) → row ≡ seam a (row_of z) (row_of (z - 1)) → a ≡ 1 → row ≡ row_of (z - 1)
+shrink_end z a row e h = e ∙ rw h (seam_low (z - 1) z)
 
-module _ (z a : ℕ) (row : List ℕ) (e : row ≡ seam (a + 1) (row_of z) (row_of (z - 1))) (low : 0 < a) (on : a ≤ z) (small : z ≤ 35) where
-  parts : get_or (row_of (z - 1)) a 0 + get_or row (a - 1) 0 ≡ get_or row a 0
+-- a is one above the entry that is written
+module _ (z a : ℕ) (row : List ℕ) (e : row ≡ seam a (row_of z) (row_of (z - 1))) (low : 1 < a) (on : a ≤ z + 1) (small : z ≤ 35) where
+  parts : get_or (row_of (z - 1)) (a - 1) 0 + get_or row (a - 1 - 1) 0 ≡ get_or row (a - 1) 0
   parts =
-      let within : a + 1 ≤ length (row_of z) = omega (arith, row_length z) in
-      let mine = seam_below (a + 1) (row_of z) (row_of (z - 1)) a within (omega arith) in
-      let before = seam_below (a + 1) (row_of z) (row_of (z - 1)) (a - 1) within (omega arith) in
-      rw (e, mine, before) (rows_step (z - 1) z a (omega arith) low on small)
+      let within : a ≤ length (row_of z) = omega (arith, row_length z) in
+      let mine = seam_below a (row_of z) (row_of (z - 1)) (a - 1) within (omega arith) in
+      let before = seam_below a (row_of z) (row_of (z - 1)) (a - 1 - 1) within (omega arith) in
+      rw (e, mine, before) (rows_step (z - 1) z (a - 1) (omega arith) (omega arith) (omega arith) small)
 
-  pub shrink_holds : get_or row (a - 1) 0 ≤ get_or row a 0
+  pub shrink_holds : get_or row (a - 1 - 1) 0 ≤ get_or row (a - 1) 0
   shrink_holds = omega (arith, parts)
 
-  pub shrink_turn : set row a (get_or row a 0 - get_or row (a - 1) 0) ≡ seam (a - 1 + 1) (row_of z) (row_of (z - 1))
+  pub shrink_turn : set row (a - 1) (get_or row (a - 1) 0 - get_or row (a - 1 - 1) 0) ≡ seam (a - 1) (row_of z) (row_of (z - 1))
   shrink_turn =
-      let left : get_or row a 0 - get_or row (a - 1) 0 ≡ get_or (row_of (z - 1)) a 0 = omega (arith, parts) in
-      let back : a - 1 + 1 ≡ a = omega arith in
-      rw (left, e, back) (seam_down a (row_of z) (row_of (z - 1)) (same (z - 1) z) (omega (arith, row_length z)))
+      let left : get_or row (a - 1) 0 - get_or row (a - 1 - 1) 0 ≡ get_or (row_of (z - 1)) (a - 1) 0 = omega (arith, parts) in
+      let back : a ≡ a - 1 + 1 = omega arith in
+      let same_row = e ∙ ap (λ (k : ℕ). seam k (row_of z) (row_of (z - 1))) back in
+      rw (left, same_row) (seam_down (a - 1) (row_of z) (row_of (z - 1)) (same (z - 1) z) (omega (arith, row_length z)))
 
--- ---- over any list
-
-pub clear_begin : (old : List ℕ) → length old ≡ 36 → set old 0 1 ≡ seam 1 (row_of 0) (set old 0 1)
-clear_begin old long =
-    let first = row_first 0 ∙ sym (get_or-set_same old 0 1 0 (omega arith)) in
-    let as_long : length (row_of 0) ≡ length (set old 0 1) = simp length-set (omega (arith, row_length 0)) in
-    sym (seam_first (row_of 0) (set old 0 1) (omega (arith, row_length 0)) as_long first)
-
-module _ (a : ℕ) (old row : List ℕ) (e : row ≡ seam a (row_of 0) old) (long : length old ≡ 36) (kept : length row ≡ 36) where
-  as_long : length (row_of 0) ≡ length old
-  as_long = omega (arith, row_length 0)
-
-  pub clear_turn : 1 ≤ a → a < length row → set row a 0 ≡ seam (a + 1) (row_of 0) old
-  clear_turn low on =
-      let none = sym (row_past 0 a low (omega arith)) in
-      ap (λ (x : ℕ). set row a x) none ∙ rw e (seam_up a (row_of 0) old as_long (omega (arith, row_length 0)))
-
-  pub clear_end : length row ≤ a → row ≡ row_of 0
-  clear_end h = e ∙ seam_whole a (row_of 0) old as_long (λ i l m. absurd (omega (arith, row_length 0)))
+-- ---- the first row
 
 pub row_start : set (replicate 36 0) 0 1 ≡ row_of 0
-row_start = clear_begin old long ∙ seam_whole 1 (row_of 0) (set old 0 1) (row_length 0) zeros
-  where
-    old : List ℕ
-    old = replicate 36 0
+unfolding row_of tabulate ways binom binom_before
+row_start = refl
 
-    long : length old ≡ 36
-    long = length-replicate {A = ℕ} 36 0
+-- ---- what the proofs of `grow` and `shrink` use
 
-    zeros : (i : ℕ) → 1 ≤ i → i < length (row_of 0) → get_or (row_of 0) i 0 ≡ get_or (set old 0 1) i 0
-    zeros i low on =
-        let within : i < 36 = omega (arith, row_length 0) in
-        row_past 0 i low within ∙ sym (get_or-set_other old 0 i 1 0 (λ e. omega arith) ∙ get_or-replicate {A = ℕ} 36 i 0 0 within)
+pub ruleset growing = (length-set, row_long, grow_begin, grow_fits, grow_turn, grow_end)
 
--- ---- from row to row
-
-pub fill_end_lem : (z b : ℕ) (row : List ℕ) → row ≡ row_of b → b ≤ z → z ≤ b → row ≡ row_of z
-fill_end_lem z b row e h k = let there : b ≡ z = omega arith in e ∙ ap row_of there
+pub ruleset shrinking = (length-set, row_long, shrink_begin, shrink_holds, shrink_turn, shrink_end)

@@ -7,6 +7,9 @@
 --     table_within       within the table, `table_at` is C
 --     table_entry        within the table, `table_at` is the table's entry
 --     table_past         past the table, `table_at` is 0
+--     held               the numbers that the code holds are C(0) .. C(36): antt computes and compares them, once for the whole table
+--     table_held         and its entries are those of `table_at`
+--     entries            what the proof of `catalan` uses
 -- Assumes nothing.
 use mathlib.Core.Path.{◌≡◌, refl, sym, ap, ◌∙◌}
 use mathlib.Core.List.{List}
@@ -16,6 +19,7 @@ use native.Mathlib.Omega.{arith}
 use lib.ListN.{length, get_or}
 use borrow.Author.Tests.{le-leb, lt-leb}
 use Rattle.catalan.specs.Count.{C}
+use Rattle.catalan.specs.declared.TheConstants.{CATALAN}
 use Rattle.catalan.specs.Table.{tabulate, catalans, table_at}
 use Rattle.catalan.proofs.Counting.{C_rule}
 
@@ -49,3 +53,12 @@ table_entry n table e h = table_at_lem table n e h ∙ sym (table_within n h)
 pub table_past : (n : ℕ) → 36 < n → 0 ≡ table_at n
 unfolding table_at
 table_past n h = rw (lt-leb n 36 h)
+
+pub held : CATALAN ≡ catalans
+unfolding catalans tabulate C
+held = refl
+
+pub table_held : (n : ℕ) → n ≤ 36 → get_or CATALAN n 0 ≡ table_at n
+table_held n h = table_entry n CATALAN held h
+
+pub ruleset entries = (table_held, table_past)

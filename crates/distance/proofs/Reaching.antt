@@ -18,12 +18,11 @@ use Rattle.catalan.specs.Count.{largest_size}
 use Rattle.catalan.proofs.Counting.{C_half}
 use Rattle.shape.specs.Form.{Tested}
 use Rattle.shape.specs.Numbering.{Numbering, total, WellFormed, Lawful}
-use Rattle.shape.specs.Reply.{outcome_reply, refused}
+use Rattle.shape.specs.Reply.{outcome_reply, refused, Outcome}
 use Rattle.shape.specs.Check.{checked}
 use Rattle.shape.specs.Move.{target, reaches, moved, end_past, move_check, move_reply, move_end}
 use Rattle.shape.specs.declared.Refusal.{Refusal}
-use Rattle.shape.specs.declared.Outcome.{Outcome}
-use Rattle.shape.specs.declared.Outcome.TheVariants.{Done, Refused}
+use Rattle.std.specs.Prelude.{Ok, Err}
 use Rattle.shape.proofs.Answers.{then_refused, outcome_passed, left_old}
 use Rattle.shape.proofs.Distances.{reach_done, reach_past, reach_left}
 use Rattle.distance.proofs.Sums.{sum_reached, sum_past}
@@ -51,7 +50,7 @@ module _ (N : Numbering) (laws : Lawful N) (small : N.nodes ≤ largest_size) (p
   sum_stops h = sym (sum_past (N.number p) (total N) limit (laws.number_below p g) d f t e h)
 
 -- o is what the check answered, a refusal
-module _ (N : Numbering) (d : ℤ) (p : List ℕ) (o : Outcome) (f : Refusal) (h : o ≡ Refused f) (e : checked N.form N.nodes p ≡ o) where
+module _ (N : Numbering) (d : ℤ) (p : List ℕ) (o : Outcome) (f : Refusal) (h : o ≡ Err f) (e : checked N.form N.nodes p ≡ o) where
   refused_first : move_check N d p ≡ o
   unfolding move_check
   refused_first = then_refused (checked N.form N.nodes p) _ o f h e
@@ -65,8 +64,8 @@ module _ (N : Numbering) (d : ℤ) (p : List ℕ) (o : Outcome) (f : Refusal) (h
   told_kept = left_old (move_check N d p) o (moved N d p) p f h refused_first
 
 -- b is what the worker answered, f the refusal of the end that was passed, x what was left
-module _ (N : Numbering) (d : ℤ) (s : SFits w64 d) (p : List ℕ) (r : checked N.form N.nodes p ≡ Done) where
-  pub told_done : (b : Bool) → b ≡ reaches N (to_z w64 (of_z w64 d)) p → b ≡ true → outcome_reply Done ≡ move_reply N d p
+module _ (N : Numbering) (d : ℤ) (s : SFits w64 d) (p : List ℕ) (r : checked N.form N.nodes p ≡ Ok tt) where
+  pub told_done : (b : Bool) → b ≡ reaches N (to_z w64 (of_z w64 d)) p → b ≡ true → outcome_reply (Ok tt) ≡ move_reply N d p
   told_done b e h = reach_done N d p b r (e ∙ ap (λ z. reaches N z p) (to_z-of_z s)) h
 
   pub told_past : Lawful N → Tested N.form → (b : Bool) (f : Refusal) → b ≡ reaches N (to_z w64 (of_z w64 d)) p → b ≡ false
