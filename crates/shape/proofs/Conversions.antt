@@ -17,74 +17,74 @@ use Rattle.shape.specs.Form.{Form, every, Faithful, Tested}
 use Rattle.shape.specs.Check.{and_then, Sized, room_of, checked}
 use Rattle.shape.specs.Calls.{conversion_check, conversion_end}
 use Rattle.shape.specs.declared.Refusal.TheVariants.{Size, Length, Entry, Shape}
-use Rattle.shape.specs.declared.Outcome.{Outcome}
-use Rattle.shape.specs.declared.Outcome.TheVariants.{Done, Refused}
+use Rattle.shape.specs.Reply.{Outcome}
+use Rattle.std.specs.Prelude.{Ok, Err}
 use Rattle.shape.proofs.Checks.{room_size, room_length, room_done, room_after, checked_size, checked_length, checked_entry}
 use Rattle.shape.proofs.Checks.{checked_shape, checked_done}
 use Rattle.shape.proofs.Answers.{then_refused, then_next}
 
 -- The answer of two checks is the first one's, or, where that is done, the second one's.
 then_either : (o next a : Outcome) → and_then o next ≡ a → (o ≡ a) ⊎ (next ≡ a)
-then_either Done next a e = inr e
-then_either (Refused f) next a e = inl e
+then_either (Ok _) next a e = inr e
+then_either (Err f) next a e = inl e
 
 module _ (F : Form) (long : ℕ → ℕ) (n : ℕ) (p q : List ℕ) where
-  pub conversion_size : (conversion_check F long n p q ≡ Refused Size) ↔ (Sized n → ⊥)
+  pub conversion_size : (conversion_check F long n p q ≡ Err Size) ↔ (Sized n → ⊥)
   unfolding conversion_check
   conversion_size = (
-    λ e. elim (then_either (room_of long n (length q)) (checked F n p) (Refused Size) e) [
+    λ e. elim (then_either (room_of long n (length q)) (checked F n p) (Err Size) e) [
       | inl r ↦ (room_size long n (length q)).0 r
       | inr c ↦ (checked_size F n p).0 c
     ],
-    λ g. then_refused (room_of long n (length q)) (checked F n p) (Refused Size) Size refl ((room_size long n (length q)).1 g),
+    λ g. then_refused (room_of long n (length q)) (checked F n p) (Err Size) Size refl ((room_size long n (length q)).1 g),
   )
 
-  pub conversion_length : (conversion_check F long n p q ≡ Refused Length)
+  pub conversion_length : (conversion_check F long n p q ≡ Err Length)
       ↔ (Sized n × ((length q ≡ long n) × (length p ≡ F.length_of n) → ⊥))
   unfolding conversion_check
   conversion_length = (
-    λ e. elim (then_either (room_of long n (length q)) (checked F n p) (Refused Length) e) [
+    λ e. elim (then_either (room_of long n (length q)) (checked F n p) (Err Length) e) [
       | inl r ↦ let (s, h) = (room_length long n (length q)).0 r in (s, λ (a, b). h a)
       | inr c ↦ let (s, h) = (checked_length F n p).0 c in (s, λ (a, b). h b)
     ],
     λ (s, h). elim (ℕ_discrete (length q) (long n)) [
-      | yes a ↦ then_next (room_of long n (length q)) (checked F n p) (Refused Length) ((room_done long n (length q)).1 (s, a))
+      | yes a ↦ then_next (room_of long n (length q)) (checked F n p) (Err Length) ((room_done long n (length q)).1 (s, a))
           ((checked_length F n p).1 (s, λ b. h (a, b)))
-      | no a ↦ then_refused (room_of long n (length q)) (checked F n p) (Refused Length) Length refl ((room_length long n (length q)).1 (s, a))
+      | no a ↦ then_refused (room_of long n (length q)) (checked F n p) (Err Length) Length refl ((room_length long n (length q)).1 (s, a))
     ],
   )
 
-  pub conversion_entry : (conversion_check F long n p q ≡ Refused Entry)
+  pub conversion_entry : (conversion_check F long n p q ≡ Err Entry)
       ↔ (Sized n × (length q ≡ long n) × (length p ≡ F.length_of n) × (every (length p) (F.entry_test n p) ≡ false))
   unfolding conversion_check
   conversion_entry =
-      Iff.trans (room_after long n (length q) (checked F n p) (Refused Entry) (omega arith) (checked_entry F n p)) (
+      Iff.trans (room_after long n (length q) (checked F n p) (Err Entry) (omega arith) (checked_entry F n p)) (
         λ (s, l, (_, m, e)). (s, l, m, e),
         λ (s, l, m, e). (s, l, (s, m, e)),
       )
 
   module _ (tested : Tested F) where
-    pub conversion_shape : (conversion_check F long n p q ≡ Refused Shape)
+    pub conversion_shape : (conversion_check F long n p q ≡ Err Shape)
         ↔ (Sized n × (length q ≡ long n) × (length p ≡ F.length_of n) × (every (length p) (F.entry_test n p) ≡ true)
         × (F.WellFormed n p → ⊥))
     unfolding conversion_check
     conversion_shape =
-        Iff.trans (room_after long n (length q) (checked F n p) (Refused Shape) (omega arith) (checked_shape F tested n p)) (
+        Iff.trans (room_after long n (length q) (checked F n p) (Err Shape) (omega arith) (checked_shape F tested n p)) (
           λ (s, l, (_, m, e, w)). (s, l, m, e, w),
           λ (s, l, m, e, w). (s, l, (s, m, e, w)),
         )
 
-    pub conversion_done : (conversion_check F long n p q ≡ Done) ↔ (Sized n × (length q ≡ long n) × F.WellFormed n p)
+    pub conversion_done : (conversion_check F long n p q ≡ Ok tt) ↔ (Sized n × (length q ≡ long n) × F.WellFormed n p)
     unfolding conversion_check
     conversion_done =
-        Iff.trans (room_after long n (length q) (checked F n p) Done tt (checked_done F tested n p)) (
+        Iff.trans (room_after long n (length q) (checked F n p) (Ok tt) tt (checked_done F tested n p)) (
           λ (s, l, (_, w)). (s, l, w),
           λ (s, l, w). (s, l, (s, w)),
         )
 
 -- ---- there and back
 
-module _ (F G : Form) (n : ℕ) (p q : List ℕ) (done : conversion_check F G.length_of n p q ≡ Done) (faithful : Faithful G) where
+module _ (F G : Form) (n : ℕ) (p q : List ℕ) (done : conversion_check F G.length_of n p q ≡ Ok tt) (faithful : Faithful G) where
   pub conversion_tree : G.read (conversion_end F G n p q) ≡ F.read p
   unfolding conversion_end
   conversion_tree = rw done (faithful.read_write (F.read p))

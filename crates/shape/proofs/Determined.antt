@@ -2,9 +2,8 @@
 -- Assumes nothing.
 use mathlib.Core.Logic.Iff
 use Prim.Native.Nat.{ℕ}
-use Rattle.shape.specs.Reply.{refusal_number}
+use Rattle.shape.specs.Reply.{refusal_number, Outcome}
 use Rattle.shape.specs.Check.{length_of, room_of}
-use Rattle.shape.specs.declared.Outcome.{Outcome}
 use Rattle.shape.specs.Determined.{Determined, determined}
 use Rattle.shape.proofs.Refusal.number.Reads as number
 use Rattle.shape.proofs.room.Reads as room

@@ -22,6 +22,7 @@ pub mod Replies
 pub mod Checks
 pub mod Searches
 pub mod Answers
+pub mod Passing
 pub mod Returns
 pub mod Distances
 pub mod Conversions

@@ -14,14 +14,11 @@ use Prim.Native.Nat.{ℕ, ◌-◌, ◌≤◌}
 use native.Mathlib.Omega.{arith}
 use lib.Dec.{T, leb, leb→le}
 use lib.ListN.{get_or}
-use Rattle.shape.specs.Reply.{refusal_number, Reply, refused, outcome_reply, numbered_reply}
+use Rattle.shape.specs.Reply.{refusal_number, Reply, refused, outcome_reply, numbered_reply, Outcome, Numbered}
 use Rattle.shape.specs.Check.{reply}
 use Rattle.shape.specs.declared.Refusal.{Refusal}
 use Rattle.shape.specs.declared.Refusal.TheVariants.{Size, Length, Entry, Shape, Number, Last, First, Range, State, Record, Input}
-use Rattle.shape.specs.declared.Outcome.{Outcome}
-use Rattle.shape.specs.declared.Outcome.TheVariants.{Done, Refused}
-use Rattle.shape.specs.declared.Numbered.{Numbered}
-use Rattle.shape.specs.declared.Numbered.TheVariants.{Value, Refused as NotNumbered}
+use Rattle.std.specs.Prelude.{Ok, Err}
 
 -- the refusals in the order of their numbers, from 1
 abbrev refusals : List Refusal
@@ -58,16 +55,16 @@ same_refusal : {x y : Reply} → x ≡ y → x.refusal ≡ y.refusal
 same_refusal e = ap (λ (z : Reply). z.refusal) e
 
 pub outcome_known : (r s : Outcome) → outcome_reply r ≡ outcome_reply s → r ≡ s
-outcome_known Done Done e = refl
-outcome_known Done (Refused f) e = absurd (omega (arith, same_refusal e, refusal_least f))
-outcome_known (Refused f) Done e = absurd (omega (arith, same_refusal e, refusal_least f))
-outcome_known (Refused f) (Refused g) e = ap Refused (refusal_known f g (same_refusal e))
+outcome_known (Ok _) (Ok _) e = refl
+outcome_known (Ok _) (Err f) e = absurd (omega (arith, same_refusal e, refusal_least f))
+outcome_known (Err f) (Ok _) e = absurd (omega (arith, same_refusal e, refusal_least f))
+outcome_known (Err f) (Err g) e = ap Err (refusal_known f g (same_refusal e))
 
 pub numbered_known : (r s : Numbered) → numbered_reply r ≡ numbered_reply s → r ≡ s
-numbered_known (Value j) (Value k) e = ap Value (ap (λ (y : Reply). y.value) e)
-numbered_known (Value j) (NotNumbered f) e = absurd (omega (arith, same_refusal e, refusal_least f))
-numbered_known (NotNumbered f) (Value k) e = absurd (omega (arith, same_refusal e, refusal_least f))
-numbered_known (NotNumbered f) (NotNumbered g) e = ap NotNumbered (refusal_known f g (same_refusal e))
+numbered_known (Ok j) (Ok k) e = ap Ok (ap (λ (y : Reply). y.value) e)
+numbered_known (Ok j) (Err f) e = absurd (omega (arith, same_refusal e, refusal_least f))
+numbered_known (Err f) (Ok k) e = absurd (omega (arith, same_refusal e, refusal_least f))
+numbered_known (Err f) (Err g) e = ap Err (refusal_known f g (same_refusal e))
 
 pub outcome_exact : (r s : Outcome) → (outcome_reply r ≡ outcome_reply s) ↔ (r ≡ s)
 outcome_exact r s = (outcome_known r s, ap outcome_reply)
@@ -77,24 +74,24 @@ numbered_exact r s = (numbered_known r s, ap numbered_reply)
 
 -- where there is nothing to say, 0 is said
 pub outcome_silent : (r : Outcome) → (outcome_reply r).value ≡ 0
-outcome_silent Done = refl
-outcome_silent (Refused f) = refl
+outcome_silent (Ok _) = refl
+outcome_silent (Err f) = refl
 
-pub refused_silent : (f : Refusal) → (numbered_reply (NotNumbered f)).value ≡ 0
+pub refused_silent : (f : Refusal) → (numbered_reply (Err f)).value ≡ 0
 refused_silent f = refl
 
 -- and what is done or counted is no refusal
-pub done_accepted : (outcome_reply Done).refusal ≡ 0
+pub done_accepted : (outcome_reply (Ok tt)).refusal ≡ 0
 done_accepted = refl
 
-pub value_accepted : (k : ℕ) → (numbered_reply (Value k)).refusal ≡ 0
+pub value_accepted : (k : ℕ) → (numbered_reply (Ok k)).refusal ≡ 0
 value_accepted k = refl
 
 -- o is the check, and k what is said where it is done
-pub told_value : (o : Outcome) (k v : ℕ) → numbered_reply (Value v) ≡ reply o k → (o ≡ Done) × (v ≡ k)
-told_value Done k v e = (refl, ap (λ (y : Reply). y.value) e)
-told_value (Refused f) k v e = absurd (omega (arith, same_refusal e, refusal_least f))
+pub told_value : (o : Outcome) (k v : ℕ) → numbered_reply (Ok v) ≡ reply o k → (o ≡ Ok tt) × (v ≡ k)
+told_value (Ok _) k v e = (refl, ap (λ (y : Reply). y.value) e)
+told_value (Err f) k v e = absurd (omega (arith, same_refusal e, refusal_least f))
 
-pub told_refused : (o : Outcome) (k : ℕ) (f : Refusal) → refused f ≡ reply o k → o ≡ Refused f
-told_refused Done k f e = absurd (omega (arith, same_refusal e, refusal_least f))
-told_refused (Refused g) k f e = ap Refused (refusal_known g f (sym (same_refusal e)))
+pub told_refused : (o : Outcome) (k : ℕ) (f : Refusal) → refused f ≡ reply o k → o ≡ Err f
+told_refused (Ok _) k f e = absurd (omega (arith, same_refusal e, refusal_least f))
+told_refused (Err g) k f e = ap Err (refusal_known g f (sym (same_refusal e)))

@@ -16,7 +16,7 @@ use Rattle.shape.specs.Form.{Form}
 use Rattle.shape.specs.Check.{contents}
 use Rattle.shape.specs.Faults.{first_fault, fits}
 use Rattle.shape.specs.declared.Refusal.TheVariants.{Entry, Shape}
-use Rattle.shape.specs.declared.Outcome.TheVariants.{Done, Refused}
+use Rattle.std.specs.Prelude.{Ok, Err}
 use Rattle.shape.proofs.Tests.{every_all, every_fails}
 
 -- ---- the first fault of a test
@@ -83,7 +83,7 @@ module _ (F : Form) (n : ℕ) (p : List ℕ) (r : ℕ) (e : r ≡ first_fault 0 
   both : (i : ℕ) → i < r → (F.entry_test n p i ≡ true) × (F.shape_test n p i ≡ true)
   both i h = (and-eq-true_iff (F.entry_test n p i) (F.shape_test n p i)).0 (first.before i (omega arith) h)
 
-  pub contents_done : r ≡ length p → Done ≡ contents F n p
+  pub contents_done : r ≡ length p → Ok tt ≡ contents F n p
   unfolding contents
   contents_done end =
       let entries = every_all (length p) (F.entry_test n p) (λ i l. (both i (omega arith)).0) in
@@ -95,7 +95,7 @@ module _ (F : Form) (n : ℕ) (p : List ℕ) (r : ℕ) (e : r ≡ first_fault 0 
     next : Fault from d (F.entry_test n p) a
     next = rw g (found from d (F.entry_test n p))
 
-    pub contents_entry : a < length p → Refused Entry ≡ contents F n p
+    pub contents_entry : a < length p → Err Entry ≡ contents F n p
     unfolding contents
     contents_entry h = simp (every_fails (length p) (F.entry_test n p) a h (next.at (omega arith)))
 
@@ -106,7 +106,7 @@ module _ (F : Form) (n : ℕ) (p : List ℕ) (r : ℕ) (e : r ≡ first_fault 0 
     misshapen : (t u : Bool) → (t && u) ≡ false → t ≡ true → u ≡ false
     misshapen t u e h = rw h at e
 
-    pub contents_shape : (r ≡ length p → ⊥) → length p ≤ a → Refused Shape ≡ contents F n p
+    pub contents_shape : (r ≡ length p → ⊥) → length p ≤ a → Err Shape ≡ contents F n p
     unfolding contents
     contents_shape other h =
         let on : r < length p = omega (arith, fault_within) in

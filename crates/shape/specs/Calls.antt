@@ -11,9 +11,8 @@
 use Rattle.std.specs.Prelude.{List, ℕ, length}
 use Rattle.shape.specs.Form.{Form}
 use Rattle.shape.specs.Numbering.{Numbering, next, previous}
-use Rattle.shape.specs.Reply.{Reply, outcome_reply}
+use Rattle.shape.specs.Reply.{Reply, outcome_reply, Outcome}
 use Rattle.shape.specs.Check.{and_then, room_of, checked, number_check, successor_check, predecessor_check, reply, unless_refused}
-use Rattle.shape.specs.declared.Outcome.{Outcome}
 
 -- 01, Refusal numbers, 1 to 4.
 unfoldable pub check_reply : Form → ℕ → List ℕ → Reply

@@ -11,27 +11,23 @@
 --     numbered, reply       what a call answers after a check, and what that says
 --     unless_refused        what it leaves in a lent list, or hands back
 -- Assumes nothing.
-use Rattle.std.specs.Prelude.{Bool, true, false, ◌&&◌, List, ℕ, ◌+◌, ◌/◌, ◌≤◌, leb, ltb, eqb, length}
+use Rattle.std.specs.Prelude.{Bool, true, false, ◌&&◌, List, ℕ, ◌+◌, ◌/◌, ◌≤◌, leb, ltb, eqb, length, Ok, Err}
 use Rattle.catalan.specs.Count.{largest_size}
 use Rattle.shape.specs.Form.{Form, patterns, permutations, every}
 use Rattle.shape.specs.Numbering.{Numbering, total}
-use Rattle.shape.specs.Reply.{Reply, numbered_reply}
+use Rattle.shape.specs.Reply.{Reply, numbered_reply, Outcome, Numbered}
 use Rattle.shape.specs.declared.Form.{Form as Name}
 use Rattle.shape.specs.declared.Form.TheVariants.{Pattern, Permutation, Record}
 use Rattle.shape.specs.declared.Refusal.{Refusal}
 use Rattle.shape.specs.declared.Refusal.TheVariants.{Size, Length, Entry, Shape, Number, Last, First}
-use Rattle.shape.specs.declared.Outcome.{Outcome}
-use Rattle.shape.specs.declared.Outcome.TheVariants.{Done, Refused}
-use Rattle.shape.specs.declared.Numbered.{Numbered}
-use Rattle.shape.specs.declared.Numbered.TheVariants.{Value, Refused as NotNumbered}
 
 abbrev pub unless : Bool → Refusal → Outcome → Outcome
 unless true f next = next
-unless false f next = Refused f
+unless false f next = Err f
 
 abbrev pub and_then : Outcome → Outcome → Outcome
-and_then Done next = next
-and_then (Refused f) next = Refused f
+and_then (Ok _) next = next
+and_then (Err f) next = Err f
 
 -- 1: size 0 or above 35.
 abbrev pub sized : ℕ → Bool
@@ -52,7 +48,7 @@ length_of Record n = record_length n
 
 -- 1 and 2, of a list of m entries that is to be as long as `long` says.
 unfoldable pub room_of : (ℕ → ℕ) → ℕ → ℕ → Outcome
-room_of long n m = unless (sized n) Size (unless (eqb m (long n)) Length Done)
+room_of long n m = unless (sized n) Size (unless (eqb m (long n)) Length (Ok tt))
 
 -- All that is asked of a list that is only written.
 abbrev pub room_for : Form → ℕ → List ℕ → Outcome
@@ -60,30 +56,30 @@ room_for F n p = room_of F.length_of n (length p)
 
 -- 3 and 4.
 unfoldable pub contents : Form → ℕ → List ℕ → Outcome
-contents F n p = unless (every (length p) (F.entry_test n p)) Entry (unless (every (length p) (F.shape_test n p)) Shape Done)
+contents F n p = unless (every (length p) (F.entry_test n p)) Entry (unless (every (length p) (F.shape_test n p)) Shape (Ok tt))
 
 unfoldable pub checked : Form → ℕ → List ℕ → Outcome
 checked F n p = and_then (room_for F n p) (contents F n p)
 
 -- 5: number C(n) or above.
 unfoldable pub number_check : Numbering → ℕ → List ℕ → Outcome
-number_check N k p = and_then (room_for N.form N.nodes p) (unless (ltb k (total N)) Number Done)
+number_check N k p = and_then (room_for N.form N.nodes p) (unless (ltb k (total N)) Number (Ok tt))
 
 -- 6: successor of the last.
 unfoldable pub successor_check : Numbering → List ℕ → Outcome
-successor_check N p = and_then (checked N.form N.nodes p) (unless (ltb (N.number p + 1) (total N)) Last Done)
+successor_check N p = and_then (checked N.form N.nodes p) (unless (ltb (N.number p + 1) (total N)) Last (Ok tt))
 
 -- 7: predecessor of the first.
 unfoldable pub predecessor_check : Numbering → List ℕ → Outcome
-predecessor_check N p = and_then (checked N.form N.nodes p) (unless (ltb 0 (N.number p)) First Done)
+predecessor_check N p = and_then (checked N.form N.nodes p) (unless (ltb 0 (N.number p)) First (Ok tt))
 
 abbrev pub numbered : Outcome → ℕ → Numbered
-numbered Done k = Value k
-numbered (Refused f) k = NotNumbered f
+numbered (Ok _) k = Ok k
+numbered (Err f) k = Err f
 
 abbrev pub reply : Outcome → ℕ → Reply
 reply r k = numbered_reply (numbered r k)
 
 abbrev pub unless_refused : {A : Type 0} → Outcome → A → A → A
-unless_refused Done new old = new
-unless_refused (Refused f) new old = old
+unless_refused (Ok _) new old = new
+unless_refused (Err f) new old = old

@@ -6,15 +6,13 @@
 --     move_check               refusals 1 to 4, then 6 for a target past the last number, then 7 for one below 0
 --     move_reply, move_end     what the call says, and what it leaves
 -- Assumes nothing.
-use Rattle.std.specs.Prelude.{Bool, ◌&&◌, List, ℕ, ℤ, pos, negsuc, nat_abs, ◌+ℤ◌}
+use Rattle.std.specs.Prelude.{Bool, ◌&&◌, List, ℕ, ℤ, pos, negsuc, nat_abs, ◌+ℤ◌, Ok}
 use Rattle.std.specs.Int.Signed.{lt_z, non_neg}
 use Rattle.shape.specs.Numbering.{Numbering, total}
-use Rattle.shape.specs.Reply.{Reply, outcome_reply}
+use Rattle.shape.specs.Reply.{Reply, outcome_reply, Outcome}
 use Rattle.shape.specs.Check.{unless, and_then, checked, unless_refused}
 use Rattle.shape.specs.declared.Refusal.{Refusal}
 use Rattle.shape.specs.declared.Refusal.TheVariants.{Last, First}
-use Rattle.shape.specs.declared.Outcome.{Outcome}
-use Rattle.shape.specs.declared.Outcome.TheVariants.{Done}
 
 unfoldable pub target : Numbering → ℤ → List ℕ → ℤ
 target N d p = pos (N.number p) +ℤ d
@@ -33,7 +31,7 @@ end_past (negsuc m) = First
 unfoldable pub move_check : Numbering → ℤ → List ℕ → Outcome
 move_check N d p =
     and_then (checked N.form N.nodes p)
-    (unless (lt_z (target N d p) (pos (total N))) Last (unless (non_neg (target N d p)) First Done))
+    (unless (lt_z (target N d p) (pos (total N))) Last (unless (non_neg (target N d p)) First (Ok tt)))
 
 unfoldable pub move_reply : Numbering → ℤ → List ℕ → Reply
 move_reply N d p = outcome_reply (move_check N d p)

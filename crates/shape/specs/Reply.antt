@@ -1,15 +1,12 @@
 -- What an answer says to its user: the refusal's number, 0 where there is none, and a value, 0 where there is nothing to say.
 --     refusal_number           1 to 11, the numbers by which users know the refusals: 01, Refusal numbers
 --     Reply, refused           the two numbers, and those of a refusal
+--     Outcome, Numbered        what calls answer that say no more than that it was done, and those that say a number
 --     outcome_reply, numbered_reply    each answer as a reply
 -- Assumes nothing.
-use Rattle.std.specs.Prelude.{ℕ}
+use Rattle.std.specs.Prelude.{ℕ, Result, Ok, Err}
 use Rattle.shape.specs.declared.Refusal.{Refusal}
 use Rattle.shape.specs.declared.Refusal.TheVariants.{Size, Length, Entry, Shape, Number, Last, First, Range, State, Record, Input}
-use Rattle.shape.specs.declared.Outcome.{Outcome}
-use Rattle.shape.specs.declared.Outcome.TheVariants.{Done, Refused}
-use Rattle.shape.specs.declared.Numbered.{Numbered}
-use Rattle.shape.specs.declared.Numbered.TheVariants.{Value, Refused as NotNumbered}
 
 abbrev pub refusal_number : Refusal → ℕ
 refusal_number Size = 1
@@ -32,10 +29,16 @@ pub record Reply : Type 0 where
 abbrev pub refused : Refusal → Reply
 refused f = record { refusal = refusal_number f; value = 0 }
 
+abbrev pub Outcome : Type 0
+Outcome = Result (Unit {0}) Refusal
+
+abbrev pub Numbered : Type 0
+Numbered = Result ℕ Refusal
+
 abbrev pub outcome_reply : Outcome → Reply
-outcome_reply Done = record { refusal = 0; value = 0 }
-outcome_reply (Refused f) = refused f
+outcome_reply (Ok _) = record { refusal = 0; value = 0 }
+outcome_reply (Err f) = refused f
 
 abbrev pub numbered_reply : Numbered → Reply
-numbered_reply (Value k) = record { refusal = 0; value = k }
-numbered_reply (NotNumbered f) = refused f
+numbered_reply (Ok k) = record { refusal = 0; value = k }
+numbered_reply (Err f) = refused f

@@ -18,7 +18,7 @@ pub enum Form {
 
 // Why a call refuses, in the order of the refusals' numbers, 1 to 11. Where several apply, a call gives the first, but for the
 // exceptions that the scope lists.
-#[derive(Clone, Copy)]
+#[derive(Clone, Copy, PartialEq, Eq)]
 pub enum Refusal {
     // 0 or above 35
     Size,
@@ -44,22 +44,9 @@ pub enum Refusal {
     Input,
 }
 
-// Done, or refused.
-#[derive(Clone, Copy)]
-pub enum Outcome {
-    Done,
-    Refused(Refusal),
-}
-
-// A number, or refused.
-#[derive(Clone, Copy)]
-pub enum Numbered {
-    Value(u64),
-    Refused(Refusal),
-}
-
 impl Refusal {
-    // The number under which users know it.
+    // The number under which users know it. A `match` and no cast: `refusal_answers_one_number` gives two refusals one number, which
+    // discriminants cannot have.
     pub fn number(self) -> u64
         ensures { result ≡ refusal_number self }
     {
@@ -80,19 +67,17 @@ impl Refusal {
 }
 
 // Whether the size is 1 to 35, and a slice of that length as long as the form asks.
-pub fn room(form: Form, size: usize, length: usize) -> Outcome
+#[tactic(auto, unfolding(crate::specs::Check::room_of))]
+pub fn room(form: Form, size: usize, length: usize) -> Result<(), Refusal>
     ensures { result ≡ room_of (length_of form) size length }
 {
-    if size == 0 {
-        return Outcome::Refused(Refusal::Size);
-    }
-    if size > 35 {
-        return Outcome::Refused(Refusal::Size);
+    if size == 0 || size > 35 {
+        return Err(Refusal::Size);
     }
     if length != length_of(form, size) {
-        return Outcome::Refused(Refusal::Length);
+        return Err(Refusal::Length);
     }
-    Outcome::Done
+    Ok(())
 }
 
 fn length_of(form: Form, size: usize) -> usize
