@@ -1,6 +1,6 @@
 -- What the loops over a pattern's places find.
---     block_.., pairs_.., seconds_..      the loops of block_start, pairs_start and put_pairs: _turn is what one turn makes, _stop and _end
---                            what a loop answers or leaves
+--     block_.., pairs_.., seconds_..      the loops of block_start, pairs_start and put_pairs: _turn is what one turn makes, _stop, _end and
+--                            _last what a loop answers or leaves
 --     Block, block_found     a block of one digit, as block_start finds it
 --     Paired, paired_found   the last places 1, 0, 1, 0, .. of a pattern, as pairs_start finds them
 --     zeros_within, pairs_within      that these lie within the places
@@ -8,8 +8,9 @@
 --     rise_found             and elsewhere: the pattern is the lower one of two neighbours that part at the place before the block (Parted)
 --     first_found            the zeros before the last pairs begin at the very front: the first pattern
 --     fall_found             and elsewhere: it is the upper one of two neighbours
+--     block_search, pairs_search, seconds_put, block_ends      what the proofs of those three loops and of `last_block` use
 -- Assumes nothing.
-use Rattle.std.proofs.Common.{◌≡◌, ℕ, zero, suc, ◌+◌, ◌-◌, ◌*◌, ◌<◌, ◌≤◌, cond, eqb, List, [], ◌∷◌, ◌++◌, length, get_or, take, drop, set, replicate, sym, refl, ap, ◌∙◌, subst, ap₂, inl, inr, append-nil, le_refl, eq-or-lt_of_le, arith, drop_of_length-le, length-take-le, take_all, drop-cons, eq-eqb, ne_eqb}
+use Rattle.std.proofs.Common.{◌≡◌, ℕ, zero, suc, ◌+◌, ◌-◌, ◌*◌, ◌<◌, ◌≤◌, cond, eqb, List, [], ◌∷◌, ◌++◌, length, get_or, take, drop, set, replicate, sym, refl, ap, ◌∙◌, subst, ap₂, inl, inr, append-nil, le_refl, eq-or-lt_of_le, arith, drop_of_length-le, length-set, length-take-le, take_all, drop-cons, eq-eqb, ne_eqb}
 use native.Mathlib.Nat.{sub_self}
 use native.Mathlib.Decide.{ℕ_discrete}
 use lib.Seq.{split_at}
@@ -75,9 +76,16 @@ module _ (x i : ℕ) (p w : List ℕ) (same : seconds x i p ≡ w) where
   pub seconds_turn : i < length p → seconds x (i + 2) (set p i x) ≡ w
   seconds_turn on = let two : i + 2 ≡ suc (suc i) = omega arith in rw two (second_put x p i on ∙ same)
 
-  pub seconds_end : length p ≤ i → p ≡ w
+  seconds_past : length p ≤ i → p ≡ w
   unfolding every_second
-  seconds_end past = sym (rw (take_all i p past, drop_of_length-le p past, append-nil)) ∙ same
+  seconds_past past = sym (rw (take_all i p past, drop_of_length-le p past, append-nil)) ∙ same
+
+module _ (x i n : ℕ) (p w : List ℕ) (same : seconds x i p ≡ w) (long : length p ≡ n) where
+  pub seconds_end : n ≤ i → p ≡ w
+  seconds_end past = seconds_past x i p w same (omega arith)
+
+  pub seconds_last : i < n → n - i ≤ 2 → set p i x ≡ w
+  seconds_last on few = seconds_past x (i + 2) (set p i x) w (seconds_turn x i p w same (omega arith)) (simp length-set (omega arith))
 
 -- ---- what the loops find
 
@@ -306,3 +314,13 @@ module _ (n : ℕ) (p : List ℕ) (g : Feasible n p) where
                 | inl e ↦ let there : end - 2 ≡ start - 1 = omega arith in absurd ((last_pairs.1.stops (omega arith)).1 (rw there c.here))
                 | inr l ↦ omega arith
               ]
+
+-- ---- what the proofs of `block_start`, `pairs_start`, `put_pairs` and `last_block` use
+
+pub ruleset block_search = (block_turn, block_stop, block_end)
+
+pub ruleset pairs_search = (pairs_turn, pairs_stop, pairs_end)
+
+pub ruleset seconds_put = (length-set, seconds_turn, seconds_end, seconds_last)
+
+pub ruleset block_ends = (feasible_length, zeros_within)

@@ -2,19 +2,23 @@
 --     rise_written, fall_written      what is written over the lower one of two neighbours makes the upper one, and back
 --     Room, next_room, next_half, previous_room      what a step works on lies within the places
 --     next_answers, next_leaves, previous_answers, previous_leaves      a step answers its change and leaves the neighbour
---     next_none_answers, next_none_leaves, previous_none_answers, previous_none_leaves      at the end of the order it answers 0 and
---                                     leaves the pattern as it is
+--     next_none_answers, next_none_leaves, previous_none_answers, previous_none_leaves      at the end of the order the change is 0, and
+--                                     the pattern stays as it is
+--     next_found, next_none_found, previous_found, previous_none_found      the same, as an answer that may be none
 --     first_change, later_change      what the step back finds gives the change of any pattern
+--     next_step, block_move, previous_step, changing      what the proofs of `next`, `move_block`, `previous` and `change` use
 -- Assumes nothing.
-use Rattle.std.proofs.Common.{◌≡◌, ℕ, zero, suc, ◌+◌, ◌-◌, ◌*◌, ◌/◌, ◌<◌, ◌≤◌, List, [], ◌∷◌, ◌++◌, length, take, drop, set, replicate, sym, refl, ap, ◌∙◌, subst, subst₂, append_assoc, arith, length-append, drop_at}
+use Rattle.std.proofs.Common.{◌≡◌, Option, Some, None, ℕ, zero, suc, ◌+◌, ◌-◌, ◌*◌, ◌/◌, ◌<◌, ◌≤◌, List, [], ◌∷◌, ◌++◌, length, take, drop, set, replicate, sym, refl, ap, ◌∙◌, subst, subst₂, append_assoc, arith, length-append, length-set, drop_at}
+use borrow.Rule.Slice.PartMut.{mid_of, put_mid}
 use lib.ListN.{length-replicate, replicate-append-replicate}
 use lib.Seq.{set_at, append_snoc, take-append_seam, take-append-add, drop-append-add}
 use Rattle.shape.specs.Form.{Feasible}
 use Rattle.shape.specs.Number.{local_number, change}
 use Rattle.shape.proofs.Patterns.{feasible_length}
 use Rattle.shape.proofs.Neighbours.{pairs, greatest, least, lower, upper, Neighbours, neighbours, neighbours_back}
-use Rattle.local.specs.Places.{block_start, pairs_start, every_second, next_change, next_pattern, previous_change, previous_pattern}
-use Rattle.local.proofs.Blocks.{seconds, Parted, last_found, rise_found, first_found, fall_found}
+use Rattle.local.specs.Places.{block_start, pairs_start, every_second, next_change, next_pattern, previous_change, previous_pattern, nonzero}
+use Rattle.local.proofs.Blocks.{pairs_within, seconds, Parted, last_found, rise_found, first_found, fall_found}
+use Rattle.local.proofs.Places.{filled_lem}
 use Rattle.local.proofs.Chains.{next_none, next_neighbour, previous_none, previous_neighbour}
 
 -- ---- what the steps write
@@ -107,6 +111,11 @@ pub record Room (n : ℕ) (p : List ℕ) (end start : ℕ) : Type 0 where
   pub inside : 0 < start
   pub some : start < end
 
+-- a change that is not 0, as an answer
+nonzero_lem : (k c : ℕ) → k ≡ c → 0 < k → Some k ≡ nonzero c
+nonzero_lem zero c h low = absurd (omega arith)
+nonzero_lem (suc k) c h low = ap nonzero h
+
 -- ---- one step on
 
 module _ (n : ℕ) (p : List ℕ) (s : ℕ) (g : Feasible n p) (m : Parted lower p s) where
@@ -130,6 +139,9 @@ module _ (n : ℕ) (p : List ℕ) (end start : ℕ) (g : Feasible n p) (he : end
   pub next_none_answers : start ≡ 0 → 0 ≡ next_change n p
   next_none_answers none = sym (next_none n p (omega (arith, last_found n p g end he start hs none))).0
 
+  pub next_none_found : start ≡ 0 → None ≡ nonzero (next_change n p)
+  next_none_found none = ap nonzero (next_none_answers none)
+
   pub next_none_leaves : start ≡ 0 → p ≡ next_pattern n p
   next_none_leaves none = sym (next_none n p (omega (arith, last_found n p g end he start hs none))).1
 
@@ -146,9 +158,17 @@ module _ (n : ℕ) (p : List ℕ) (end start : ℕ) (g : Feasible n p) (he : end
     pub next_answers : 2 * n - start + 1 ≡ next_change n p
     next_answers = let (m, h) = rise_found n p g end he start hs inside in sym (next_neighbour (risen n p start g m)).0
 
-    pub next_leaves : (q r : List ℕ) → q ≡ take start (set p (start - 1) 1) ++ (replicate (end - start) 0 ++ drop end (set p (start - 1) 1))
-        → r ≡ seconds 1 (2 * n - 2 * (end - start - 1)) q → r ≡ next_pattern n p
-    next_leaves q r hq hr = let (m, h) = rise_found n p g end he start hs inside in rise_leaves n p start g m end q r h hq hr
+    pub next_found : (k : ℕ) → k ≡ next_change n p → Some k ≡ nonzero (next_change n p)
+    next_found k h = nonzero_lem k (next_change n p) h (omega (arith, next_answers))
+
+    -- w is what the block holds once zeros are written over it
+    pub next_leaves : (w r : List ℕ) → w ≡ replicate (length (mid_of start (end - start) (set p (start - 1) 1))) 0
+        → r ≡ seconds 1 (2 * n - 2 * (end - start - 1)) (put_mid start (end - start) (set p (start - 1) 1) w) → r ≡ next_pattern n p
+    next_leaves w r hw hr =
+        let (m, h) = rise_found n p g end he start hs inside in
+        let room = next_room in
+        let within : end ≤ length (set p (start - 1) 1) = simp length-set (omega (arith, room)) in
+        rise_leaves n p start g m end _ r h (filled_lem start end 0 (set p (start - 1) 1) w (omega (arith, room)) within hw) hr
 
 -- ---- one step back
 
@@ -172,6 +192,9 @@ module _ (n : ℕ) (p : List ℕ) (end start : ℕ) (g : Feasible n p) (he : end
   pub previous_none_answers : start ≡ 0 → 0 ≡ previous_change n p
   previous_none_answers none = sym (previous_none n p (omega (arith, first_found n p g end he start hs none))).0
 
+  pub previous_none_found : start ≡ 0 → None ≡ nonzero (previous_change n p)
+  previous_none_found none = ap nonzero (previous_none_answers none)
+
   pub previous_none_leaves : start ≡ 0 → p ≡ previous_pattern n p
   previous_none_leaves none = sym (previous_none n p (omega (arith, first_found n p g end he start hs none))).1
 
@@ -189,13 +212,33 @@ module _ (n : ℕ) (p : List ℕ) (end start : ℕ) (g : Feasible n p) (he : end
     pub previous_answers : 2 * n - start + 1 ≡ previous_change n p
     previous_answers = let (m, h) = fall_found n p g end he start hs inside in sym (previous_neighbour (fallen n p start g m)).0
 
+    pub previous_found : Some (2 * n - start + 1) ≡ nonzero (previous_change n p)
+    previous_found = nonzero_lem (2 * n - start + 1) (previous_change n p) previous_answers (omega arith)
+
     pub later_change : 2 * n - start + 1 ≡ change n (local_number p)
     later_change =
         let (m, h) = fall_found n p g end he start hs inside in
         let below = fallen n p start g m in
         sym (ap (change n) below.higher ∙ below.changed)
 
-    pub previous_leaves : (q r : List ℕ) → q ≡ seconds 0 end (set p (start - 1) 0)
-        → r ≡ take start q ++ (replicate (start + (2 * n - end) / 2 + 1 - start) 1 ++ drop (start + (2 * n - end) / 2 + 1) q)
-        → r ≡ previous_pattern n p
-    previous_leaves q r hq hr = let (m, h) = fall_found n p g end he start hs inside in fall_leaves n p start g m end q r h hq hr
+    previous_block : start + (2 * n - end) / 2 + 1 ≤ 2 * n
+    previous_block = let (m, h) = fall_found n p g end he start hs inside in omega (arith, m.rest, feasible_length n p g)
+
+    -- w is what the places behind the changed one hold once ones are written over them
+    pub previous_leaves : (q w : List ℕ) → length q ≡ length p → q ≡ seconds 0 end (set p (start - 1) 0)
+        → w ≡ replicate (length (mid_of start (start + (2 * n - end) / 2 + 1 - start) q)) 1
+        → put_mid start (start + (2 * n - end) / 2 + 1 - start) q w ≡ previous_pattern n p
+    previous_leaves q w long hq hw =
+        let (m, h) = fall_found n p g end he start hs inside in
+        let within : start + (2 * n - end) / 2 + 1 ≤ length q = omega (arith, previous_block, previous_room) in
+        fall_leaves n p start g m end q _ h hq (filled_lem start (start + (2 * n - end) / 2 + 1) 1 q w (omega arith) within hw)
+
+-- ---- what the proofs of the steps use
+
+pub ruleset next_step = (next_none_found, next_none_leaves, next_found)
+
+pub ruleset block_move = (length-set, next_room, next_half, next_answers, next_leaves)
+
+pub ruleset previous_step = (feasible_length, pairs_within, length-set, previous_room, previous_none_found, previous_none_leaves, previous_found, previous_leaves)
+
+pub ruleset changing = (feasible_length, pairs_within, previous_room, first_change, later_change)

@@ -6,20 +6,24 @@
 --     row_grown                   with a 0 more, the row is again that of one 0 fewer
 --     ones_left                   the entry that a 1 asks for is within the row
 --     number_fits                 what it makes of the number fits 64 bits
---     Placing q p i r a b         the places of p before i, and those worked out from r for a ones and b zeros, are q
+--     Placing q p i r a b         the places of p before i, and those worked out from r for a ones and b zeros, are q; i is before the last a + b
 --     placing_none                so it is before a place is written
 --     placing_zero, placing_one   and after one place more, a 0 where r is among the ways to finish after it, and otherwise a 1
 --     placing_all                 with no ones left, the rest is zeros
 --     zeros_left                  while a 1 is left, so is a 0
 --     ways_whole                  a number below C(n) is below the ways to finish the whole pattern
 --     placed_pattern              what is worked out from the first place on is the pattern with the number
+--     numbering, shaping, placing      what the proofs of `number`, `shape` and `put_numbered` use
 -- Assumes nothing.
 use Rattle.std.proofs.Common.{◌≡◌, ℕ, zero, suc, ◌+◌, ◌-◌, ◌*◌, ◌<◌, ◌≤◌, List, [], ◌∷◌, ◌++◌, length, get_or, take, drop, set, replicate, sym, refl, ap, ◌∙◌, append-nil, le_refl, zero-add, add-one, arith, length-set, drop_of_length-le, w64, Fits}
+use native.Mathlib.Nat.{sub-zero}
 use native.Mathlib.Decide.{dec_le}
+use borrow.Rule.Slice.PartMut.{mid_of, put_mid}
+use lib.ListN.{length-replicate}
 use Rattle.catalan.specs.Count.{C, ways, largest_size}
 use Rattle.catalan.specs.Table.{row_of}
 use Rattle.catalan.proofs.Counting.{words_one, ways_words, ways_none, ways_step, ways_positive, C_ways, C_fits}
-use Rattle.catalan.proofs.Rows.{row_at}
+use Rattle.catalan.proofs.Rows.{row_at, row_start, row_long}
 use Rattle.shape.specs.Form.{count, Feasible}
 use Rattle.shape.specs.Number.{local_number, local_places, local_pattern}
 use Rattle.shape.proofs.Writing.{written_next, from_before}
@@ -27,6 +31,7 @@ use Rattle.shape.proofs.Counts.{count_split}
 use Rattle.shape.proofs.Patterns.{Word, done, zero_next, one_next, word_length, feasible_word, feasible_length}
 use Rattle.shape.proofs.LocalNumbers.{next_zero, next_one, local_lawful}
 use Rattle.local.specs.Places.{end_numbered}
+use Rattle.local.proofs.Places.{filled_lem}
 
 -- ---- the number of places
 
@@ -165,21 +170,25 @@ zeros_places : (i b : ℕ) → local_places i 0 b 0 ≡ replicate i 0
 zeros_places zero b = unfold local_places in refl
 zeros_places (suc i) b = next_zero i 0 b 0 (ways_positive 0 (b - 1) (omega arith)) ∙ ap {B = List ℕ} (λ v. 0 ∷ v) (zeros_places i (b - 1))
 
-module _ (q p : List ℕ) (i r a b : ℕ) (m : Placing q p i r a b) where
-  pub placing_all : (v : List ℕ) (end : ℕ) → a ≤ 0 → end ≡ length p → v ≡ take i p ++ (replicate (end - i) 0 ++ drop end p) → v ≡ q
-  placing_all v end h all e =
+module _ (q p : List ℕ) (end r a b : ℕ) (long : end ≡ length p) (m : Placing q p (end - a - b) r a b) where
+  -- w is what the last places hold once zeros are written over them
+  pub placing_all : (w : List ℕ) → a ≤ 0 → w ≡ replicate (length (mid_of (end - b) (length p - (end - b)) p)) 0
+      → put_mid (end - b) (length p - (end - b)) p w ≡ q
+  placing_all w h hw =
       let none : a ≡ 0 = omega arith in
       let first : r ≡ 0 = omega (arith, rw none at m.below, ways_words 0 b (b + 1) (omega arith), words_one (b + 1)) in
-      let rest : end - i ≡ b = omega (arith, m.left) in
-      let past : drop end p ≡ [] = drop_of_length-le p {i = end} (omega arith) in
-      e ∙ rw (past, rest, append-nil {A = ℕ}, sym (zeros_places b b)) (rw (none, first, zero-add) at m.places)
+      let rest : length p - (end - b) ≡ b = omega (arith, m.left) in
+      let past : drop (length p) p ≡ [] = drop_of_length-le p {i = length p} (omega arith) in
+      filled_lem (end - b) (length p) 0 p w (omega arith) (omega arith) hw
+      ∙ rw (past, rest, append-nil {A = ℕ}, sym (zeros_places b b)) (rw (none, first, zero-add, sub-zero) at m.places)
 
   module _ (row : List ℕ) (w : row ≡ row_of (b - 1)) (some : 0 < a) where
     entry : get_or row a 0 ≡ ways a (b - 1)
     entry = rw w (row_at (b - 1) a (omega (arith, m.ones, m.zeros)))
 
-    placed : (x j : ℕ) (v : List ℕ) → suc j ≡ a + b → local_places (suc j) a b r ≡ x ∷ v → take (i + 1) (set p i x) ++ v ≡ q
-    placed x j v s e = written_next p i x v (omega (arith, m.left)) ∙ rw (sym e, s) m.places
+    placed : (x j : ℕ) (v : List ℕ) → suc j ≡ a + b → local_places (suc j) a b r ≡ x ∷ v
+        → take (end - a - b + 1) (set p (end - a - b) x) ++ v ≡ q
+    placed x j v s e = written_next p (end - a - b) x v (omega (arith, m.left)) ∙ rw (sym e, s) m.places
 
     pub zeros_left : 1 ≤ b
     zeros_left = omega (arith, m.ones)
@@ -188,25 +197,36 @@ module _ (q p : List ℕ) (i r a b : ℕ) (m : Placing q p i r a b) where
       enough : a ≤ b - 1
       enough = elim (dec_le a (b - 1)) [ yes l ↦ l | no g ↦ absurd (omega (arith, entry, ways_none a (b - 1) (omega arith))) ]
 
-      pub placing_zero : Placing q (set p i 0) (i + 1) r a (b - 1)
+      pub placing_zero : Placing q (set p (end - a - b) 0) (end - a - (b - 1)) r a (b - 1)
       placing_zero =
+          let next : end - a - (b - 1) ≡ end - a - b + 1 = omega (arith, m.left, zeros_left) in
           record {
-            left = omega (arith, m.left, zeros_left, length-set p i 0);
+            left = omega (arith, m.left, zeros_left, length-set p (end - a - b) 0);
             ones = enough;
             zeros = omega (arith, m.zeros);
             below = omega (arith, entry);
-            places = placed 0 (a + (b - 1)) _ (omega (arith, zeros_left)) (next_zero (a + (b - 1)) a b r (omega (arith, entry)));
+            places = rw next (placed 0 (a + (b - 1)) _ (omega (arith, zeros_left)) (next_zero (a + (b - 1)) a b r (omega (arith, entry))));
           }
 
-    pub placing_one : get_or row a 0 ≤ r → Placing q (set p i 1) (i + 1) (r - get_or row a 0) (a - 1) b
+    pub placing_one : get_or row a 0 ≤ r
+        → Placing q (set p (end - a - b) 1) (end - (a - 1) - b) (r - get_or row a 0) (a - 1) b
     placing_one h =
         let whole : suc (a - 1) ≡ a = omega arith in
         let fewer : suc (b - 1) ≡ b = omega (arith, zeros_left) in
         let step : ways a b ≡ ways a (b - 1) + ways (a - 1) b = rw (whole, fewer) at (ways_step (a - 1) (b - 1) (omega (arith, m.ones))) in
+        let next : end - (a - 1) - b ≡ end - a - b + 1 = omega (arith, m.left, zeros_left) in
         record {
-          left = omega (arith, m.left, length-set p i 1);
+          left = omega (arith, m.left, length-set p (end - a - b) 1);
           ones = omega (arith, m.ones);
           zeros = m.zeros;
           below = omega (arith, m.below, step, entry);
-          places = placed 1 (a - 1 + b) _ (omega arith) (rw whole at (next_one (a - 1 + b) (a - 1) b r (get_or row a 0) (rw (whole, entry)) h));
+          places = rw next (placed 1 (a - 1 + b) _ (omega arith) (rw whole at (next_one (a - 1 + b) (a - 1) b r (get_or row a 0) (rw (whole, entry)) h)));
         }
+
+-- ---- what the proofs of `number`, `shape` and `put_numbered` use
+
+pub ruleset numbering = (length-set, length-replicate, row_start, row_long, passed_last, passed_zero, passed_one, passed_all, row_grown, ones_left, number_fits)
+
+pub ruleset shaping = (row_long, ways_whole, placed_pattern)
+
+pub ruleset placing = (length-set, row_long, placing_none, placing_zero, placing_one, placing_all, zeros_left)

@@ -1,20 +1,10 @@
--- Laws of writing places, one after the other.
---     put_turn          of the places still to be written one is written: what comes out in the end stays the same
---     put_end           none is still to be written: that is what stands there
+-- A law of writing places.
+--     filled_lem        a list with x written over its entries from s up to e
 -- Assumes nothing.
-use Rattle.std.proofs.Common.{◌≡◌, ℕ, suc, ◌+◌, ◌-◌, ◌<◌, ◌≤◌, List, ◌++◌, length, take, drop, set, replicate, sym, ap, ◌∙◌, arith, take-append-drop, drop-set-lt}
-use native.Mathlib.Nat.{sub_self}
-use Rattle.shape.proofs.Writing.{written_next}
+use Rattle.std.proofs.Common.{◌≡◌, ℕ, ◌-◌, ◌≤◌, List, ◌++◌, length, take, drop, replicate}
+use borrow.Rule.Slice.PartMut.{mid_of, put_mid, mid_len, Post-is}
 
-module _ (p q : List ℕ) (x i to : ℕ) (kept : take i p ++ (replicate (to - i) x ++ drop to p) ≡ q) where
-  pub put_turn : (n : ℕ) → i < to → length p ≡ n → to ≤ n → take (i + 1) (set p i x) ++ (replicate (to - (i + 1)) x ++ drop to (set p i x)) ≡ q
-  put_turn n on long within =
-      let more : suc (to - (i + 1)) ≡ to - i = omega arith in
-      written_next p i x _ (omega arith)
-      ∙ rw (drop-set-lt to p i x on) (ap (λ (k : ℕ). take i p ++ (replicate k x ++ drop to p)) more)
-      ∙ kept
-
-  pub put_end : i ≤ to → to ≤ i → p ≡ q
-  put_end low high =
-      let there : i ≡ to = omega arith in
-      sym (take-append-drop to p) ∙ rw (there, sub_self) at kept
+-- w is what the part holds afterwards
+pub filled_lem : (s e x : ℕ) (p w : List ℕ) → s ≤ e → e ≤ length p → w ≡ replicate (length (mid_of s (e - s) p)) x
+    → put_mid s (e - s) p w ≡ take s p ++ (replicate (e - s) x ++ drop e p)
+filled_lem s e x p w h l hw = rw (hw, mid_len s e p l, Post-is s e p h)

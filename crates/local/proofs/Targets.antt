@@ -7,15 +7,18 @@
 --     target_past, target_left        at the first place, no word at the target: there is no such shape, and the pattern stays
 --     target_reached, target_put      a word at the target: with it in the place of these places, the pattern is the shape asked for
 --     ones_fewer, zeros_few, word_there      what `put_numbered` asks for
+--     same_bits                       a distance that is handed on is the same in its bits
+--     moving                          what the proof of `move_by` uses
 -- Assumes nothing.
 use Rattle.std.proofs.Common.{◌≡◌, ℕ, suc, ◌+◌, ◌-◌, ◌*◌, ◌%◌, ◌^◌, ◌<◌, ◌≤◌, true, false, List, [], ◌∷◌, ◌++◌, length, get_or, take, drop, ℤ, pos, negsuc, ◌+ℤ◌, nat_abs, sym, refl, ap, ◌∙◌, subst, add-one, arith, take-append-drop, drop_of_length-le, to_z-of_z, w64, SFits, to_z, of_z, le-ltb, lt-ltb}
 use native.Mathlib.Decide.{dec_lt}
 use lib.IntN.{pos-ne-negsuc}
+use lib.ListN.{length-set, length-replicate}
 use mir.Facts.{Fits-of_z}
 use Rattle.catalan.specs.Count.{C, ways, words, largest_size}
 use Rattle.catalan.specs.Table.{row_of}
 use Rattle.catalan.proofs.Counting.{C_ways, C_half, words_step, ways_words, ways_at_most}
-use Rattle.catalan.proofs.Rows.{row_at}
+use Rattle.catalan.proofs.Rows.{row_at, row_start, row_long}
 use Rattle.shape.specs.Form.{count, Feasible}
 use Rattle.shape.specs.Number.{local_number, local_places}
 use Rattle.shape.specs.Numbering.{local}
@@ -163,15 +166,22 @@ carried k t x y (negsuc n) e h =
           rw (le-ltb x (suc n) (omega arith)) (ap pos (omega arith))
     ]
 
-module _ (n : ℕ) (p : List ℕ) (g : Feasible n p) (small : n ≤ largest_size) (d : ℤ) (f : SFits w64 d) (i t a b : ℕ)
-    (m : Sought n p (of_z w64 d) i t a b) (row : List ℕ) (w : row ≡ row_of b) where
+-- the code is handed a signed number by its bits, so z is those of what is read of them
+pub same_bits : (d : ℤ) → SFits w64 d → of_z w64 (to_z w64 (of_z w64 d)) ≡ of_z w64 d
+same_bits d f = ap (of_z w64) (to_z-of_z f)
+
+module _ (n : ℕ) (p : List ℕ) (g : Feasible n p) (small : n ≤ largest_size) (d : ℤ) (f : SFits w64 d) (z i t a b : ℕ) (same : z ≡ of_z w64 d)
+    (m : Sought n p z i t a b) (row : List ℕ) (w : row ≡ row_of b) where
+  sum : t ≡ (local_number (drop i p) + of_z w64 d) % 2 ^ 64
+  sum = m.sum ∙ rw same
+
   words_here : get_or row a 0 ≡ words (suc m.excess) a
-  words_here = entry n p g small (of_z w64 d) i t a b m row w ∙ ways_words a b (suc m.excess) (omega (arith, m.zeros))
+  words_here = entry n p g small z i t a b m row w ∙ ways_words a b (suc m.excess) (omega (arith, m.zeros))
 
   words_small : get_or row a 0 ≤ 9223372036854775808
   words_small =
-      let most = ways_at_most a b (ones_fewer n p g small (of_z w64 d) i t a b m) in
-      omega (arith, entry n p g small (of_z w64 d) i t a b m row w, most, C_half b (zeros_few n p g small (of_z w64 d) i t a b m))
+      let most = ways_at_most a b (ones_fewer n p g small z i t a b m) in
+      omega (arith, entry n p g small z i t a b m row w, most, C_half b (zeros_few n p g small z i t a b m))
 
   number_here : local_number (drop i p) < get_or row a 0
   number_here = rw words_here (word_number_below m.word)
@@ -188,13 +198,13 @@ module _ (n : ℕ) (p : List ℕ) (g : Feasible n p) (small : n ≤ largest_size
     there = take i p ++ other
 
     there_formed : Feasible n there
-    there_formed = word_feasible (swapped m.word other_numbered.0 (take i p) (whole n p g small (of_z w64 d) i t a b m))
+    there_formed = word_feasible (swapped m.word other_numbered.0 (take i p) (whole n p g small z i t a b m))
 
     there_number : pos (local_number there) ≡ pos (local_number p) +ℤ d
     there_number =
-        let moves = swapped_number m.word other_numbered.0 (take i p) (whole n p g small (of_z w64 d) i t a b m) in
+        let moves = swapped_number m.word other_numbered.0 (take i p) (whole n p g small z i t a b m) in
         carried (local_number (drop i p)) t (local_number p) (local_number there) d
-        (sum_reached (local_number (drop i p)) (get_or row a 0) words_small number_here d f t m.sum h)
+        (sum_reached (local_number (drop i p)) (get_or row a 0) words_small number_here d f t sum h)
         (omega (arith, rw (take-append-drop i p, other_numbered.1) at moves))
 
     pub target_reached : true ≡ reaches (local n) d p
@@ -219,11 +229,35 @@ module _ (n : ℕ) (p : List ℕ) (g : Feasible n p) (small : n ≤ largest_size
     every_word =
         let (x, y) = word_same (feasible_word g) (subst (Word m.excess a) all m.word) in
         let zeros : b ≡ n = omega (arith, m.zeros) in
-        entry n p g small (of_z w64 d) i t a b m row w ∙ rw (sym y, zeros) (sym (C_ways n))
+        entry n p g small z i t a b m row w ∙ rw (sym y, zeros) (sym (C_ways n))
 
     pub target_past : false ≡ reaches (local n) d p
-    target_past = sum_stops (local n) (local_lawful n) small p g d f t (m.sum ∙ rw all) (omega (arith, every_word))
+    target_past = sum_stops (local n) (local_lawful n) small p g d f t (sum ∙ rw all) (omega (arith, every_word))
 
     pub target_left : p ≡ moved_pattern n d p
     unfolding moved_pattern
     target_left = rw (sym target_past)
+
+-- ---- what the proof of `move_by` uses
+
+pub ruleset moving = (
+  length-set,
+  length-replicate,
+  row_start,
+  row_long,
+  sought_none,
+  sought_zero,
+  sought_one,
+  row_next,
+  ones_within,
+  next_within,
+  ones_fewer,
+  zeros_few,
+  words_rise,
+  word_there,
+  target_reached,
+  target_put,
+  target_past,
+  target_left,
+  same_bits,
+)

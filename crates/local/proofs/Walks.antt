@@ -1,45 +1,33 @@
 -- Laws of the loops that read a pattern from its first place on: `depth`, `head_length`, `before`.
---     place_..           what a place does to the excess of ones over zeros, and that no step on the way there wraps
+--     place_open, place_turn      what a place does to the excess of ones over zeros
 --     Climbed            the excess and the largest excess so far
---     depth_..           the walk by two places, which raises the largest or not
---     pair_of_places     what it asks on the way there, for `search`
---     head_..            the walk has not left the head as long as the excess is above 0
---     before_..          the patterns are the same so far, and the first difference decides
--- Of a loop: _begin is what holds at its start, _turn (of depth, _rises and _stays) what one turn makes, _end what it leaves.
+--     depth_.., climbed_next      the walk by two places; top_open and pair_open, that its differences do not wrap
+--     Inside             the excess so far, and that the head goes on as long as it is above 0
+--     head_..            the walk to the head's last place
+--     before_..          the patterns are the same so far, and the first difference (_found) decides
+--     climbing, heading, ordering, searching      what the proofs of `depth`, `head_length`, `before` and `first_above` use
+-- Of a loop: _begin is what holds at its start, _turn or _next what one turn makes, _end what it leaves.
 -- Assumes nothing.
 use Rattle.std.proofs.Common.{◌≡◌, ℕ, suc, ◌+◌, ◌-◌, ◌*◌, ◌^◌, ◌<◌, ◌≤◌, max, true, false, ltb, List, length, get_or, take, sym, ap, ◌∙◌, subst, inl, inr, le_of_eq, le_of_lt, eq-or-lt_of_le, add-one, arith, take_all, take-suc, w64, Fits, le-ltb, lt-ltb}
+use native.Mathlib.Decide.{dec_lt}
 use Rattle.shape.specs.Tree.{head, pattern}
 use Rattle.shape.specs.Form.{Feasible, pattern_tree}
 use Rattle.shape.specs.Number.{local_number, largest, depth}
 use Rattle.shape.proofs.Patterns.{feasible_length, pattern_of}
+use Rattle.shape.proofs.Searches.{search_on, search_hit, search_end}
+use borrow.Author.Tests.{le-leb, lt-leb}
 use Rattle.shape.proofs.Orders.{dictionary_at}
 use Rattle.shape.proofs.LocalNumbers.{local_lawful}
 use Rattle.shape.proofs.Excess.{excess, excess_first, excess_next, head_within, head_least, head_closed, head_open}
 
 -- ---- one place more
 
-module _ (n : ℕ) (p : List ℕ) (g : Feasible n p) (i : ℕ) (on : i < length p) where
-  pub place_fits_lem : Fits w64 (get_or p i 0)
-  place_fits_lem = record { fits = omega (arith, g.places i on) }
+module _ (n : ℕ) (p : List ℕ) (g : Feasible n p) (i : ℕ) (on : i < length p) (e : ℕ) (at : e ≡ excess p i) where
+  pub place_open : 1 ≤ e + 2 * get_or p i 0
+  place_open = omega (arith, excess_next g i on)
 
-  pub place_doubled : Fits w64 (2 * get_or p i 0)
-  place_doubled = record { fits = omega (arith, g.places i on) }
-
-  pub place_added : (e : ℕ) → e ≤ i → length p * 1 < 2 ^ 63 → Fits w64 (e + 2 * get_or p i 0)
-  place_added e h room = record { fits = omega (arith, g.places i on) }
-
-  pub place_small : (e : ℕ) → e ≤ i → e + 2 * get_or p i 0 - 1 ≤ i + 1
-  place_small e h = omega (arith, g.places i on)
-
-  module _ (e : ℕ) (at : e ≡ excess p i) where
-    pub place_open : 1 ≤ e + 2 * get_or p i 0
-    place_open = omega (arith, excess_next g i on)
-
-    pub place_turn : e + 2 * get_or p i 0 - 1 ≡ excess p (i + 1)
-    place_turn = omega (arith, excess_next g i on)
-
--- what a step over a place asks
-pub ruleset place = (place_fits_lem, place_doubled, place_added, place_small, place_open, place_turn)
+  pub place_turn : e + 2 * get_or p i 0 - 1 ≡ excess p (i + 1)
+  place_turn = omega (arith, excess_next g i on)
 
 -- ---- the largest excess
 
@@ -49,118 +37,71 @@ largest_next f i = ap (λ (j : ℕ). max (largest j f) (f (i + 1))) (add-one i)
 
 -- so far: e is the excess of the first k pairs of places, and m the largest of all prefixes up to there
 pub record Climbed (n : ℕ) (p : List ℕ) (m e k : ℕ) : Type 0 where
+  pub long : length p ≡ 2 * n
   pub within : k ≤ n
   pub few : e ≤ 2 * k
   pub at : e ≡ excess p (2 * k)
   pub most : m ≡ largest (suc (2 * k)) (excess p)
 
-pub depth_begin : (n : ℕ) (p : List ℕ) → Climbed n p 0 0 0
-depth_begin n p =
-    record { within = omega arith; few = omega arith; at = sym (excess_first p); most = unfold largest in omega (arith, excess_first p) }
+pub depth_begin : (n : ℕ) (p : List ℕ) → Feasible n p → Climbed n p 0 0 0
+depth_begin n p g =
+    record {
+      long = feasible_length n p g;
+      within = omega arith;
+      few = omega arith;
+      at = sym (excess_first p);
+      most = unfold largest in omega (arith, excess_first p);
+    }
 
-module _ (n : ℕ) (p : List ℕ) (g : Feasible n p) (k : ℕ) (on : k < n) where
-  abbrev first : ℕ
-  first = get_or p (2 * k) 0
+-- x and y are the next two places
+module _ (n : ℕ) (p : List ℕ) (m e k x y : ℕ) (g : Feasible n p) (c : Climbed n p m e k) (on : k < n)
+    (first : x ≡ get_or p (2 * k) 0) (second : y ≡ get_or p (2 * k + 1) 0) where
+  first_on : 2 * k < length p
+  first_on = omega (arith, c.long)
 
-  abbrev second : ℕ
-  second = get_or p (2 * k + 1) 0
+  second_on : 2 * k + 1 < length p
+  second_on = omega (arith, c.long)
 
-  pub first_on : 2 * k < length p
-  first_on = omega (arith, feasible_length n p g)
+  one_more : excess p (2 * k + 1) + 1 ≡ e + 2 * x
+  one_more = omega (arith, c.at, excess_next g (2 * k) first_on)
 
-  pub second_on : 2 * k + 1 < length p
-  second_on = omega (arith, feasible_length n p g)
+  pair : 2 * k + 1 + 1 ≡ 2 * (k + 1)
+  pair = omega arith
 
-  module _ (room : length p * 1 < 2 ^ 63) where
-    pub first_fits : Fits w64 (2 * k)
-    first_fits = omega (arith, first_on)
+  two_more : excess p (2 * (k + 1)) + 2 ≡ e + 2 * (x + y)
+  two_more = omega (arith, one_more, rw pair at (excess_next g (2 * k + 1) second_on))
 
-    pub second_fits : Fits w64 (2 * k + 1)
-    second_fits = omega (arith, first_on)
+  pub top_open : 1 ≤ e + 2 * x + y
+  top_open = omega (arith, one_more)
 
-    pub next_fits : Fits w64 (k + 1)
-    next_fits = omega (arith, first_on)
+  pub pair_open : 2 ≤ e + 2 * (x + y)
+  pair_open = omega (arith, two_more)
 
-  pub pair_added : Fits w64 (first + second)
-  pair_added = omega (arith, g.places (2 * k) first_on, g.places (2 * k + 1) second_on)
+  -- the larger of the excess at the first of the two and at the second
+  abbrev top : ℕ
+  top = e + 2 * x + y - 1
 
-  pub pair_doubled : Fits w64 (2 * (first + second))
-  pair_doubled = omega (arith, g.places (2 * k) first_on, g.places (2 * k + 1) second_on)
+  largest_more : largest (suc (2 * (k + 1))) (excess p) ≡ max m top
+  largest_more =
+      let far = rw pair at (largest_next (excess p) (2 * k + 1)) in
+      let near = largest_next (excess p) (2 * k) in
+      omega (arith, far, near, add-one (2 * k), c.most, one_more, two_more, g.places (2 * k + 1) second_on)
 
-  module _ (m e : ℕ) (c : Climbed n p m e k) where
-    module _ (room : length p * 1 < 2 ^ 63) where
-      pub first_raised : Fits w64 (e + 2 * first)
-      first_raised = place_added n p g (2 * k) first_on e c.few room
-
-      pub top_raised : Fits w64 (e + 2 * first + second)
-      top_raised = omega (arith, c.few, g.places (2 * k) first_on, g.places (2 * k + 1) second_on, first_on)
-
-      pub pair_raised : Fits w64 (e + 2 * (first + second))
-      pair_raised = omega (arith, c.few, g.places (2 * k) first_on, g.places (2 * k + 1) second_on, first_on)
-
-    one_more : excess p (2 * k + 1) + 1 ≡ e + 2 * first
-    one_more = omega (arith, c.at, excess_next g (2 * k) first_on)
-
-    pair : 2 * k + 1 + 1 ≡ 2 * (k + 1)
-    pair = omega arith
-
-    two_more : excess p (2 * (k + 1)) + 2 ≡ e + 2 * (first + second)
-    two_more = omega (arith, one_more, rw pair at (excess_next g (2 * k + 1) second_on))
-
-    pub top_open : 1 ≤ e + 2 * first + second
-    top_open = omega (arith, one_more)
-
-    pub pair_open : 2 ≤ e + 2 * (first + second)
-    pair_open = omega (arith, two_more)
-
-    -- the larger of the excess at the first of the two and at the second
-    abbrev top : ℕ
-    top = e + 2 * first + second - 1
-
-    largest_more : largest (suc (2 * (k + 1))) (excess p) ≡ max m top
-    largest_more =
-        let far = rw pair at (largest_next (excess p) (2 * k + 1)) in
-        let near = largest_next (excess p) (2 * k) in
-        omega (arith, far, near, add-one (2 * k), c.most, one_more, two_more, g.places (2 * k + 1) second_on)
-
-    climbed_next : (m' : ℕ) → m' ≡ max m top → Climbed n p m' (e + 2 * (first + second) - 2) (k + 1)
-    climbed_next m' h =
-        record {
-          within = omega arith;
-          few = omega (arith, c.few, g.places (2 * k) first_on, g.places (2 * k + 1) second_on);
-          at = omega (arith, two_more);
-          most = h ∙ sym largest_more;
-        }
-
-    pub depth_rises : m < top → Climbed n p top (e + 2 * (first + second) - 2) (k + 1)
-    depth_rises h = climbed_next top (omega arith)
-
-    pub depth_stays : top ≤ m → Climbed n p m (e + 2 * (first + second) - 2) (k + 1)
-    depth_stays h = climbed_next m (omega arith)
+  pub climbed_next : (m' : ℕ) → m' ≡ max m top → Climbed n p m' (e + 2 * (x + y) - 2) (k + 1)
+  climbed_next m' h =
+      record {
+        long = c.long;
+        within = omega arith;
+        few = omega (arith, c.few, g.places (2 * k) first_on, g.places (2 * k + 1) second_on);
+        at = omega (arith, two_more);
+        most = h ∙ sym largest_more;
+      }
 
 pub depth_end : (n : ℕ) (p : List ℕ) → Feasible n p → (k m e : ℕ) → Climbed n p m e k → n ≤ k → m ≡ depth p
 unfolding depth excess
 depth_end n p g k m e c h =
     let end : 2 * k ≡ length p = omega (arith, feasible_length n p g, c.within) in
     c.most ∙ ap (λ (j : ℕ). largest (suc j) (excess p)) end
-
--- what a step over two places asks
-pub ruleset pair_of_places = (
-  place_fits_lem,
-  place_doubled,
-  first_on,
-  second_on,
-  first_fits,
-  second_fits,
-  next_fits,
-  pair_added,
-  pair_doubled,
-  first_raised,
-  top_raised,
-  pair_raised,
-  top_open,
-  pair_open,
-)
 
 -- ---- the head
 
@@ -177,35 +118,55 @@ module _ (n : ℕ) (p : List ℕ) (g : Feasible n p) where
   pub head_fits : length (head (pattern_tree p)) ≤ length p
   head_fits = omega (arith, head_within (pattern_tree p), ap length whole)
 
-  module _ (large : 1 ≤ n) where
-    pub head_begin : 1 ≤ length (head (pattern_tree p))
-    head_begin = omega (arith, head_least (pattern_tree p) (rw (pattern_of n p g).1 large))
+-- so far: o is the excess of the first i places, the head's last closes it, and what stands before it does not
+pub record Inside (n : ℕ) (p : List ℕ) (o i : ℕ) : Type 0 where
+  pub fits : length (head (pattern_tree p)) ≤ length p
+  pub few : o ≤ i
+  pub at : o ≡ excess p i
+  pub goes_on : 1 ≤ o → i < length (head (pattern_tree p))
+  pub ends : o ≤ 0 → i ≡ length (head (pattern_tree p))
 
-    pub head_first : 1 ≡ excess p 1
-    head_first =
-        let some : 0 < length p = omega (arith, feasible_length n p g) in
-        omega (arith, excess_first p, excess_next g 0 some, g.places 0 some)
+module _ (n : ℕ) (p : List ℕ) (g : Feasible n p) (i o : ℕ) (low : 1 ≤ i) (few : o ≤ i) (at : o ≡ excess p i)
+    (within : i ≤ length (head (pattern_tree p))) where
+  inside : Inside n p o i
+  inside =
+      elim (eq-or-lt_of_le within) [
+        | inl e ↦
+            record {
+              fits = head_fits n p g;
+              few = few;
+              at = at;
+              goes_on = λ h. absurd (omega (arith, ap (excess p) e, closed n p g));
+              ends = λ h. e;
+            }
+        | inr l ↦
+            record {
+              fits = head_fits n p g;
+              few = few;
+              at = at;
+              goes_on = λ h. l;
+              ends = λ h. absurd (omega (arith, open_within n p g i low l));
+            }
+      ]
 
-  module _ (i o : ℕ) (at : o ≡ excess p i) (within : i ≤ length (head (pattern_tree p))) where
-    pub head_turn : 0 < o → i + 1 ≤ length (head (pattern_tree p))
-    head_turn h =
-        elim (eq-or-lt_of_le within) [
-          | inl e ↦ absurd (omega (arith, ap (excess p) e, closed))
-          | inr l ↦ omega arith
-        ]
+pub head_begin : (n : ℕ) (p : List ℕ) → Feasible n p → 1 ≤ n → Inside n p 1 1
+head_begin n p g large =
+    let some : 0 < length p = omega (arith, feasible_length n p g) in
+    let first : 1 ≡ excess p 1 = omega (arith, excess_first p, excess_next g 0 some, g.places 0 some) in
+    inside n p g 1 1 (omega arith) (omega arith) first (omega (arith, head_least (pattern_tree p) (rw (pattern_of n p g).1 large)))
 
-    pub head_place : 0 < o → i < length p
-    head_place h = omega (arith, head_turn h, head_fits)
+-- x is the next place
+module _ (n : ℕ) (p : List ℕ) (o i x : ℕ) (g : Feasible n p) (c : Inside n p o i) (more : 0 < o) (place : x ≡ get_or p i 0) where
+  on : i < length p
+  on = omega (arith, c.goes_on (omega arith), c.fits)
 
-    pub head_less : 0 < o → length p - (i + 1) < length p - i
-    head_less h = omega (arith, head_place h)
+  pub head_open_next : 1 ≤ o + 2 * x
+  head_open_next = omega (arith, c.at, excess_next g i on)
 
-    pub head_end : 1 ≤ i → o ≤ 0 → i ≡ length (head (pattern_tree p))
-    head_end low h =
-        elim (eq-or-lt_of_le within) [
-          | inl e ↦ e
-          | inr l ↦ absurd (omega (arith, open_within i low l))
-        ]
+  pub head_turn : Inside n p (o + 2 * x - 1) (i + 1)
+  head_turn =
+      inside n p g (i + 1) (o + 2 * x - 1) (omega arith) (omega (arith, c.few, g.places i on)) (omega (arith, c.at, excess_next g i on))
+      (omega (arith, c.goes_on (omega arith)))
 
 -- ---- the first difference
 
@@ -216,15 +177,15 @@ first_less n p q g h i same on l =
     (dictionary_at p q i same (omega (arith, feasible_length n p g)) (omega (arith, feasible_length n q h)) l)
 
 module _ (n : ℕ) (p q : List ℕ) (g : Feasible n p) (h : Feasible n q) (i : ℕ) (same : take i p ≡ take i q) where
-  pub before_less : i < 2 * n → get_or p i 0 < get_or q i 0 → true ≡ ltb (local_number p) (local_number q)
-  before_less on l = sym (lt-ltb _ _ (first_less n p q g h i same on l))
+  pub before_found : i < 2 * n → (get_or p i 0 ≡ get_or q i 0 → ⊥) → ltb (get_or p i 0) (get_or q i 0) ≡ ltb (local_number p) (local_number q)
+  before_found on other =
+      elim (dec_lt (get_or p i 0) (get_or q i 0)) [
+        | yes l ↦ lt-ltb _ _ l ∙ sym (lt-ltb _ _ (first_less n p q g h i same on l))
+        | no k ↦ le-ltb _ _ (omega arith) ∙ sym (le-ltb _ _ (le_of_lt (first_less n q p h g i (sym same) on (omega arith))))
+      ]
 
-  pub before_more : i < 2 * n → get_or q i 0 < get_or p i 0 → false ≡ ltb (local_number p) (local_number q)
-  before_more on l = sym (le-ltb _ _ (le_of_lt (first_less n q p h g i (sym same) on l)))
-
-  pub before_turn : i < 2 * n → get_or q i 0 ≤ get_or p i 0 → get_or p i 0 ≤ get_or q i 0 → take (i + 1) p ≡ take (i + 1) q
-  before_turn on l m =
-      let place : get_or p i 0 ≡ get_or q i 0 = omega arith in
+  pub before_turn : i < 2 * n → get_or p i 0 ≡ get_or q i 0 → take (i + 1) p ≡ take (i + 1) q
+  before_turn on place =
       let here : i < length p = omega (arith, feasible_length n p g) in
       let there : i < length q = omega (arith, feasible_length n q h) in
       rw (add-one, take-suc p i 0, take-suc q i 0, same, place)
@@ -233,3 +194,13 @@ module _ (n : ℕ) (p q : List ℕ) (g : Feasible n p) (h : Feasible n q) (i : �
   before_end end =
       let all : p ≡ q = cc (take_all i p (omega (arith, feasible_length n p g)), take_all i q (omega (arith, feasible_length n q h))) in
       sym (le-ltb _ _ (le_of_eq (ap local_number (sym all))))
+
+-- ---- what the proofs of `depth`, `head_length`, `before` and `first_above` use
+
+pub ruleset climbing = (depth_begin, top_open, pair_open, climbed_next, depth_end)
+
+pub ruleset heading = (head_begin, head_open_next, head_turn)
+
+pub ruleset ordering = (feasible_length, before_found, before_turn, before_end)
+
+pub ruleset searching = (le-leb, lt-leb, search_on, search_hit, search_end)
