@@ -64,10 +64,11 @@ module _ (m j rest k : ℕ) (i : fewer_left m j + rest ≡ k) where
   found : j ≤ m → k < fewer_left m (suc j) → j ≡ left_nodes m m k
   found h below = sym (left_nodes_only m k j (record { from = omega arith; to = below }) h)
 
-  pub left_last : j ≤ m → m ≤ j → k < C (m + 1) → j ≡ left_nodes m m k
-  left_last h all below =
-      let last : suc j ≡ suc m = omega arith in
-      found h (rw (last, fewer_all m) (rw add-one at below))
+  pub left_last : (1 ≤ m → j ≤ m) → 1 ≤ m → m ≤ j → k < C (m + 1) → (m ≡ left_nodes m m k) × (fewer_left m m + rest ≡ k)
+  left_last within some all below =
+      let last : j ≡ m = omega arith in
+      let nodes : j ≡ left_nodes m m k = found (omega arith) (rw (last, fewer_all m) (rw add-one at below)) in
+      (sym last ∙ nodes, rw last at i)
 
   module _ (table : List ℕ) (e : table ≡ catalans) (on : j < m) (small : m < largest_size) where
     pub left_here : rest < get_or table j 0 * get_or table (m - j) 0 → j ≡ left_nodes m m k
@@ -105,3 +106,21 @@ module _ (table : List ℕ) (e : table ≡ catalans) (m : ℕ) (small : m < larg
             | no g ↦ let alone : suc m ≡ 1 = omega arith in
                 absurd (omega (arith, rw add-one at below, with_none, fewer_all m, ap (fewer_left m) alone))
           ]
+
+-- what `fewer_left` and `left_nodes` are proved with
+pub ruleset counted = (left_entry, right_entry, trees_fit, fewer_start, fewer_fits, fewer_next, fewer_end)
+
+pub ruleset taken_off = (
+  le_refl,
+  left_entry,
+  right_entry,
+  right_whole,
+  trees_fit,
+  left_start,
+  left_none,
+  left_first,
+  left_some,
+  left_here,
+  left_more,
+  left_last,
+)

@@ -9,7 +9,7 @@
 --     labelling_begin, labelling_end      so it is at the start, and what it is at the end
 --     labelling_zero, labelling_one       so it is after a 0 and after a 1
 --     by_place, labelling_place           what holds at a 0 and at a 1 holds of the place, and so it is after a turn
---     room                 that what a turn reads and writes is there, and that what it reckons fits
+--     labelling            that, and that what a turn reads and writes is there, and that what it reckons fits
 -- Assumes nothing.
 use mathlib.Core.Path.{◌≡◌, refl, sym, ap, ◌∙◌, subst}
 use mathlib.Core.List.{List, [], ◌∷◌, ◌++◌, append-nil, reverse_aux, reverse_aux-append}
@@ -314,7 +314,9 @@ module _ (n : ℕ) (p : List ℕ) (g : Feasible n p) (q : List ℕ) (w k i : ℕ
         let label : what_written 1 ≡ get_or q (w - 1) 0 = omega arith in
         rw (at, label, add-zero) (labelling_one o))
 
-pub ruleset room = (
+-- what `permutation_of` is proved with
+pub ruleset labelling = (
+  le_refl,
   waiting_fits,
   within_fits,
   index_fits,
@@ -331,4 +333,7 @@ pub ruleset room = (
   written_fits,
   written_widens,
   write_room,
+  labelling_begin,
+  labelling_place,
+  labelling_end,
 )

@@ -20,7 +20,7 @@ use Rattle.shape.specs.Tree.{Tree, empty, node, size, permutation_from}
 use Rattle.shape.specs.Form.{cut_tree, permutation_tree}
 use Rattle.shape.specs.Number.{natural_number}
 use Rattle.natural.specs.Parts.{Part, Root, has_next, has_previous, next_tree, previous_tree}
-use Rattle.natural.specs.Parts.{first_tree, last_tree, first_parts, last_parts}
+use Rattle.natural.specs.Parts.{first_tree, last_tree, has_step, step_tree, end_tree, end_parts}
 use Rattle.natural.proofs.Parts.{Rooted, cut, left_tree, right_tree, tree_node, label, sizes, root, left_part, right_part}
 use Rattle.natural.proofs.Trees.{next_size, next_kept, next_right, next_left, next_root, next_none}
 use Rattle.natural.proofs.Trees.{previous_size, previous_kept, previous_right, previous_left, previous_root, previous_none}
@@ -55,6 +55,10 @@ previous_steps =
       right = previous_right;
       left = previous_left;
     }
+
+pub steps : (on : Bool) → Steps (has_step on) (step_tree on) (end_tree on)
+steps true = next_steps
+steps false = previous_steps
 
 -- as the contracts say it
 abbrev pub Moves : (Tree → Bool) → (Tree → Tree) → ℕ → List ℕ → Bool → List ℕ → Type 0
@@ -170,7 +174,7 @@ module _ {b : ℕ} {p : List ℕ} (h : Rooted b p) where
         none_moves next_steps h.part m.same (rw (tree_node h) (next_none l r m.right m.left none).0)
 
     pub next_root_moves : {v : List ℕ} → (cut b p ≡ length q → ⊥)
-        → v ≡ permutation_from b (first_parts b (get_or p 0 0 + 1) (length q)) → Moves has_next next_tree b p true v
+        → v ≡ permutation_from b (end_parts true b (get_or p 0 0 + 1) (length q)) → Moves has_next next_tree b p true v
     next_root_moves more hv =
         let n = next_root l r m.right m.left (omega (arith, label h, still m.same)) in
         let to = next_sizes b (get_or p 0 0) (length q) (size l) (size r) (label h) (still m.same) in
@@ -183,7 +187,7 @@ module _ {b : ℕ} {p : List ℕ} (h : Rooted b p) where
         none_moves previous_steps h.part m.same (rw (tree_node h) (previous_none l r m.right m.left none).0)
 
     pub previous_root_moves : {v : List ℕ} → (cut b p ≡ 1 → ⊥)
-        → v ≡ permutation_from b (last_parts b (get_or p 0 0 - 1) (length q)) → Moves has_previous previous_tree b p true v
+        → v ≡ permutation_from b (end_parts false b (get_or p 0 0 - 1) (length q)) → Moves has_previous previous_tree b p true v
     previous_root_moves more hv =
         let some : 0 < size l = omega (arith, label h) in
         let n = previous_root l r m.right m.left some in

@@ -6,6 +6,7 @@
 --     joined                              so it is where these three are known
 --     right_alone, left_alone             its number where it has no left part, and where it has no right part
 --     right_behind                        where it has no left part, what stands behind the root is a part
+--     numbered                            these, for `number`
 -- Assumes nothing.
 use mathlib.Core.Path.{◌≡◌, refl, ◌∙◌}
 use mathlib.Core.List.{List}
@@ -75,3 +76,6 @@ module _ {b : ℕ} {p : List ℕ} (h : Rooted b p) where
       let behind : length p - cut b p ≡ 0 = omega arith in
       let one : get_or catalans (length p - cut b p) 0 ≡ 1 = rw behind (table_at_lem catalans 0 refl (omega arith) ∙ unfold C in refl) in
       omega (arith, rw one at (joined {table = catalans} refl h f l none).whole)
+
+-- what `number` is proved with
+pub ruleset numbered = (number_small, number_fits, joined, root, left_part, right_part, right_alone, right_behind, left_alone)

@@ -8,7 +8,7 @@
 --     writing_begin, writing_end        so it is at the start, and what is written in the end
 --     writing_zero, writing_one         so it is after a 0 and after a 1
 --     by_due, writing_place             what holds at a 0 and at a 1 holds of the place due, and so it is after a turn
---     room                    that what a turn reads and writes is there, and that what it reckons fits
+--     writing                 that, and that what a turn reads and writes is there, and that what it reckons fits
 -- Assumes nothing.
 use mathlib.Core.Path.{◌≡◌, sym, ap, ◌∙◌}
 use mathlib.Core.Bool.{Bool, true, false}
@@ -235,4 +235,17 @@ module _ (n : ℕ) (q : List ℕ) (f : TreePermutation n q) where
       pub writing_place : Turned (bool_byte (ltb m (get_or q (k - 1) 0)))
       writing_place = by_due Turned (λ h. rw (sub-zero k) (writing_zero h)) (λ h. rw (sub-zero m) (writing_one h))
 
-pub ruleset room = (place_within, entry_left, entry_within, entry_fits_lem, due_most, due_fits, due_left, label_due)
+-- what `pattern_of` is proved with
+pub ruleset writing = (
+  place_within,
+  entry_left,
+  entry_within,
+  entry_fits_lem,
+  due_most,
+  due_fits,
+  due_left,
+  label_due,
+  writing_begin,
+  writing_place,
+  writing_end,
+)

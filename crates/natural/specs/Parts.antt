@@ -4,9 +4,10 @@
 --     has_next, has_previous   there is a tree after, before, of the same size
 --     next_tree, previous_tree  one step along the natural order; the tree as it is for the last, for the first
 --     first_tree, last_tree    the first and the last tree of a size
---     first_parts, last_parts  a root, and under it the first, the last tree of each part's size
+--     has_step, step_tree, end_tree      these for both ways: on, true, and back, false
+--     end_parts                a root, and under it the tree of each part's size with which the way begins
 -- Assumes nothing.
-use Rattle.std.specs.Prelude.{◌≡◌, Bool, cond, List, ℕ, ◌+◌, ◌-◌, ◌≤◌, ◌<◌, ltb, length}
+use Rattle.std.specs.Prelude.{◌≡◌, Bool, true, false, cond, List, ℕ, ◌+◌, ◌-◌, ◌≤◌, ◌<◌, ltb, length}
 use Rattle.catalan.specs.Count.{C, largest_size}
 use Rattle.shape.specs.Tree.{Tree, node, size, permutation_from}
 use Rattle.shape.specs.Form.{permutation_tree}
@@ -42,9 +43,19 @@ first_tree m = natural_tree m 0
 abbrev pub last_tree : ℕ → Tree
 last_tree m = natural_tree m (C m - 1)
 
--- Of n nodes, with the labels after b and the root labelled x: the labels between are the left part's, those from x on the right part's.
-abbrev pub first_parts : ℕ → ℕ → ℕ → Tree
-first_parts b x n = node (first_tree (x - b - 1)) (first_tree (n - (x - b)))
+-- On the way on, or on the way back: whether there is a step to make, the tree it leads to, and the tree of a size with which the way begins.
+abbrev pub has_step : Bool → Tree → Bool
+has_step true = has_next
+has_step false = has_previous
 
-abbrev pub last_parts : ℕ → ℕ → ℕ → Tree
-last_parts b x n = node (last_tree (x - b - 1)) (last_tree (n - (x - b)))
+abbrev pub step_tree : Bool → Tree → Tree
+step_tree true = next_tree
+step_tree false = previous_tree
+
+abbrev pub end_tree : Bool → ℕ → Tree
+end_tree true = first_tree
+end_tree false = last_tree
+
+-- Of n nodes, with the labels after b and the root labelled x: the labels between are the left part's, those from x on the right part's.
+abbrev pub end_parts : Bool → ℕ → ℕ → ℕ → Tree
+end_parts on b x n = node (end_tree on (x - b - 1)) (end_tree on (n - (x - b)))
