@@ -6,7 +6,7 @@ use mathlib.Core.List.{List}
 use Prim.Native.Nat.{ℕ}
 use Rattle.shape.specs.Form.{patterns, permutations}
 use Rattle.shape.specs.Calls.{conversion_check, conversion_reply, conversion_end}
-use Rattle.shape.specs.declared.Outcome.{Outcome}
+use Rattle.shape.specs.Reply.{Outcome}
 use Rattle.shape.specs.Determined.{Determined, determined, exact_both}
 use Rattle.shape.proofs.Replies.{outcome_exact}
 use Rattle.convert.proofs.to_permutation.Reads as to-permutation

@@ -21,11 +21,10 @@ use Rattle.shape.specs.Tree.{head}
 use Rattle.shape.specs.Form.{Feasible, patterns, pattern_tree}
 use Rattle.shape.specs.Number.{local_number, change}
 use Rattle.shape.specs.Numbering.{local}
-use Rattle.shape.specs.Reply.{outcome_reply}
+use Rattle.shape.specs.Reply.{outcome_reply, Outcome}
 use Rattle.shape.specs.Check.{room_for}
 use Rattle.shape.specs.Calls.{check_reply}
-use Rattle.shape.specs.declared.Outcome.{Outcome}
-use Rattle.shape.specs.declared.Outcome.TheVariants.{Done}
+use Rattle.std.specs.Prelude.{Ok}
 use Rattle.shape.proofs.Patterns.{pattern_of}
 use Rattle.shape.proofs.Tests.{patterns_tested}
 use Rattle.shape.proofs.LocalNumbers.{local_lawful}
@@ -36,7 +35,7 @@ use Rattle.shape.proofs.Answers.{answered, room_some, room_small, room_long, che
 
 -- ---- after the tests of the size and of the length
 
-module _ (n : ℕ) (p : List ℕ) (r : Outcome) (e : r ≡ room_for patterns n p) (h : r ≡ Done) where
+module _ (n : ℕ) (p : List ℕ) (r : Outcome) (e : r ≡ room_for patterns n p) (h : r ≡ Ok tt) where
   pub places_some : 1 ≤ n
   places_some = room_some patterns.length_of n (length p) r e h
 
@@ -51,9 +50,9 @@ module _ (n : ℕ) (p : List ℕ) (r : Outcome) (e : r ≡ room_for patterns n p
 
 -- ---- after the check
 
-module _ (n : ℕ) (p : List ℕ) (r : Outcome) (e : outcome_reply r ≡ check_reply patterns n p) (h : r ≡ Done) where
+module _ (n : ℕ) (p : List ℕ) (r : Outcome) (e : outcome_reply r ≡ check_reply patterns n p) (h : r ≡ Ok tt) where
   pub done_feasible : Feasible n p
-  done_feasible = done_formed patterns patterns_tested n p (check_told patterns n p r e Done h)
+  done_feasible = done_formed patterns patterns_tested n p (check_told patterns n p r e (Ok tt) h)
 
   some : 1 ≤ n
   some = done_some patterns n p r e h

@@ -9,8 +9,7 @@ use Rattle.shape.specs.Form.{patterns}
 use Rattle.shape.specs.Number.{local_number, change, depth as depth_of}
 use Rattle.shape.specs.Numbering.{local}
 use Rattle.shape.specs.Check.{checked, number_check, successor_check, predecessor_check, numbered}
-use Rattle.shape.specs.declared.Outcome.{Outcome}
-use Rattle.shape.specs.declared.Numbered.{Numbered}
+use Rattle.shape.specs.Reply.{Outcome, Numbered}
 use Rattle.shape.specs.Determined.{Determined, determined, exact_both}
 use Rattle.shape.proofs.Replies.{outcome_exact, numbered_exact}
 use Rattle.shape.specs.Calls.{check_reply, number_reply, shape_reply, shape_end, successor_end, predecessor_end}

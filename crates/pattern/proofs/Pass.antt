@@ -4,6 +4,7 @@
 --     counted_none, counted_next    where it begins, and a pair more
 --     place_fits_lem, places_fit, pair_fits, faults_fit, first_fits, ones_fit  its numbers fit their width
 --     counted_wrong, counted_right          at its end: there are faults, or none
+--     counting                              these, for `feasible`
 --     feasible_done, above_entry, infeasible_shape      what the pass, and the search for a place above 1, find is what is asked of the contents
 -- Assumes nothing.
 use mathlib.Core.Logic.{◌↔◌}
@@ -26,7 +27,7 @@ use Rattle.shape.specs.Form.{count, every, place_fits, balance_fits, Feasible, p
 use Rattle.shape.specs.Check.{contents}
 use Rattle.shape.specs.Faults.{first_fault}
 use Rattle.shape.specs.declared.Refusal.TheVariants.{Entry, Shape}
-use Rattle.shape.specs.declared.Outcome.TheVariants.{Done, Refused}
+use Rattle.std.specs.Prelude.{Ok, Err}
 use Rattle.shape.proofs.Counts.{count_next, place_counts}
 use Rattle.shape.proofs.Tests.{every_all, every_fails, patterns_tested}
 use Rattle.shape.proofs.Searches.{Fault, found}
@@ -193,10 +194,24 @@ module _ (n : ℕ) (p : List ℕ) (faults ones k : ℕ) (m : Counted n p faults 
           λ f. eq-eqb ones n (ones_all ∙ f.ones),
         )
 
+-- what `feasible` is proved with
+pub ruleset counting = (
+  counted_none,
+  counted_next,
+  counted_wrong,
+  counted_right,
+  place_fits_lem,
+  places_fit,
+  pair_fits,
+  faults_fit,
+  first_fits,
+  ones_fit,
+)
+
 -- ---- the contents
 
 module _ (n : ℕ) (p : List ℕ) (long : length p ≡ 2 * n) (r : Bool) (e : (r ≡ true) ↔ Feasible n p) where
-  pub feasible_done : r ≡ true → Done ≡ contents patterns n p
+  pub feasible_done : r ≡ true → Ok tt ≡ contents patterns n p
   unfolding contents
   feasible_done h = let passes = (patterns_tested n p).1 (e.0 h) in simp (passes.entries, passes.shape)
 
@@ -204,7 +219,7 @@ module _ (n : ℕ) (p : List ℕ) (long : length p ≡ 2 * n) (r : Bool) (e : (r
     search_found : Fault 0 (length p) (place_fits n p) a
     search_found = rw (d, sub-zero (length p)) (found 0 (length p) (place_fits n p))
 
-    pub above_entry : a < length p → Refused Entry ≡ contents patterns n p
+    pub above_entry : a < length p → Err Entry ≡ contents patterns n p
     unfolding contents
     above_entry h = simp (every_fails (length p) (place_fits n p) a h (search_found.at (omega arith)))
 
@@ -215,7 +230,7 @@ module _ (n : ℕ) (p : List ℕ) (long : length p ≡ 2 * n) (r : Bool) (e : (r
       otherwise_feasible : every (length p) (balance_fits n p) ≡ true → r ≡ true
       otherwise_feasible shape = e.1 ((patterns_tested n p).0 (record { long = long; entries = entries_pass; shape = shape }))
 
-      pub infeasible_shape : Refused Shape ≡ contents patterns n p
+      pub infeasible_shape : Err Shape ≡ contents patterns n p
       unfolding contents
       infeasible_shape =
           let misshapen = (not-eq-not {b = false}).0 (λ shape. false≢true (sym other ∙ otherwise_feasible shape)) in

@@ -10,7 +10,7 @@ use Rattle.shape.specs.Number.{local_number, change}
 use Rattle.shape.specs.Numbering.{local, previous}
 use Rattle.shape.specs.Check.{successor_check, predecessor_check, reply}
 use Rattle.shape.specs.Calls.{successor_end, predecessor_end}
-use Rattle.shape.specs.declared.Outcome.TheVariants.{Done}
+use Rattle.std.specs.Prelude.{Ok}
 use Rattle.shape.proofs.Tests.{patterns_tested}
 use Rattle.shape.proofs.LocalNumbers.{local_lawful}
 use Rattle.shape.proofs.Steps.{number_next, number_previous}
@@ -19,16 +19,16 @@ use Rattle.shape.proofs.Returns.{next_back, previous_on}
 use Rattle.pattern.specs.Calls.{successor_change, predecessor_change}
 
 module _ (n : ℕ) (p : List ℕ) where
-  pub change_of_successor : successor_check (local n) p ≡ Done → predecessor_change n (successor_end (local n) p) ≡ successor_change n p
+  pub change_of_successor : successor_check (local n) p ≡ Ok tt → predecessor_change n (successor_end (local n) p) ≡ successor_change n p
   unfolding predecessor_change successor_change successor_end
   change_of_successor e =
       let (sized, formed, below) = (successor_done (local n) patterns_tested p).0 e in
       rw (e, next_back (local n) (local_lawful n) patterns_tested p e)
-      (ap (λ (k : ℕ). reply Done (change n k)) (number_next (local n) (local_lawful n) p formed below))
+      (ap (λ (k : ℕ). reply (Ok tt) (change n k)) (number_next (local n) (local_lawful n) p formed below))
 
-  pub change_of_predecessor : predecessor_check (local n) p ≡ Done → successor_change n (predecessor_end (local n) p) ≡ predecessor_change n p
+  pub change_of_predecessor : predecessor_check (local n) p ≡ Ok tt → successor_change n (predecessor_end (local n) p) ≡ predecessor_change n p
   unfolding successor_change predecessor_change predecessor_end
   change_of_predecessor e =
       let (sized, formed, some) = (predecessor_done (local n) patterns_tested p).0 e in
       let back : local_number (previous (local n) p) + 1 ≡ local_number p = omega (arith, number_previous (local n) (local_lawful n) p formed) in
-      rw (e, previous_on (local n) (local_lawful n) patterns_tested p e) (ap (λ (k : ℕ). reply Done (change n k)) back)
+      rw (e, previous_on (local n) (local_lawful n) patterns_tested p e) (ap (λ (k : ℕ). reply (Ok tt) (change n k)) back)

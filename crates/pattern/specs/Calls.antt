@@ -9,9 +9,8 @@ use Rattle.shape.specs.Tree.{head}
 use Rattle.shape.specs.Form.{pattern_tree, patterns}
 use Rattle.shape.specs.Number.{local_number, change, depth}
 use Rattle.shape.specs.Numbering.{local}
-use Rattle.shape.specs.Reply.{Reply}
+use Rattle.shape.specs.Reply.{Reply, Outcome}
 use Rattle.shape.specs.Check.{and_then, checked, successor_check, predecessor_check, reply, unless_refused}
-use Rattle.shape.specs.declared.Outcome.{Outcome}
 
 -- 01, Change, run, figure: a successor answers the change of the new pattern, a predecessor that of the old one.
 unfoldable pub successor_change : ℕ → List ℕ → Reply

@@ -1,8 +1,7 @@
 -- What the calls on tree permutations meet after the check, in the words of the source: p is what the slice holds, and r what the check
 -- answered.
 --     entries_small, entries_long, entries_within      there is room: a size of 35 at most, and n entries
---     size_listed, size_scaled                    the table has an entry for the size, and its place fits 64 bits
---     table_past, table_lent, table_below, table_done      a number against that entry
+--     table_past, table_lent, table_below, table_done      a number against the table's entry for the size
 --     shape_left                                  what the shape of a number leaves
 --     done_permutation, done_part                 the check is done: a tree permutation, and a part with the labels after 0
 --     next_found, next_left, previous_left        then a step on and a step back: whether there is one, and what it leaves
@@ -16,12 +15,11 @@ use Rattle.shape.specs.Tree.{size, permutation, permutation_from}
 use Rattle.shape.specs.Form.{TreePermutation, permutations, permutation_tree}
 use Rattle.shape.specs.Number.{natural_number, natural_tree}
 use Rattle.shape.specs.Numbering.{natural, next, previous}
-use Rattle.shape.specs.Reply.{outcome_reply}
+use Rattle.shape.specs.Reply.{outcome_reply, Outcome}
 use Rattle.shape.specs.Check.{room_for, number_check, unless_refused}
 use Rattle.shape.specs.Calls.{check_reply}
 use Rattle.shape.specs.declared.Refusal.TheVariants.{Number}
-use Rattle.shape.specs.declared.Outcome.{Outcome}
-use Rattle.shape.specs.declared.Outcome.TheVariants.{Done, Refused}
+use Rattle.std.specs.Prelude.{Ok, Err}
 use Rattle.shape.proofs.Permutations.{permutation_of}
 use Rattle.shape.proofs.Tests.{permutations_tested}
 use Rattle.shape.proofs.Checks.{done_formed}
@@ -31,18 +29,12 @@ use Rattle.natural.proofs.Parts.{formed_part}
 
 -- ---- after the tests of the size and of the length
 
-module _ (n : ℕ) (p : List ℕ) (r : Outcome) (e : r ≡ room_for permutations n p) (h : r ≡ Done) where
+module _ (n : ℕ) (p : List ℕ) (r : Outcome) (e : r ≡ room_for permutations n p) (h : r ≡ Ok tt) where
   pub entries_small : n ≤ largest_size
   entries_small = room_small permutations.length_of n (length p) r e h
 
   pub entries_long : length p ≡ n
   entries_long = room_long permutations.length_of n (length p) r e h
-
-  pub size_listed : n < 37
-  size_listed = omega (arith, entries_small)
-
-  pub size_scaled : Fits w64 (n * 8)
-  size_scaled = omega (arith, entries_small)
 
   pub entries_within : length p ≤ largest_size
   entries_within = omega (arith, entries_small, entries_long)
@@ -52,7 +44,7 @@ module _ (n : ℕ) (p : List ℕ) (r : Outcome) (e : r ≡ room_for permutations
     entry : get_or a n 0 ≡ table_at n
     entry = table_entry n a t (omega (arith, entries_small))
 
-    pub table_past : get_or a n 0 ≤ k → number_check (natural n) k p ≡ Refused Number
+    pub table_past : get_or a n 0 ≤ k → number_check (natural n) k p ≡ Err Number
     table_past = asked_past (natural n) k p r e h (get_or a n 0) entry
 
     pub table_lent : get_or a n 0 ≤ k → p ≡ unless_refused (number_check (natural n) k p) ((natural n).shape k) p
@@ -61,19 +53,19 @@ module _ (n : ℕ) (p : List ℕ) (r : Outcome) (e : r ≡ room_for permutations
     pub table_below : k < get_or a n 0 → k < C (length p)
     table_below below = rw entries_long (asked_below (natural n) k p r e h (get_or a n 0) entry below)
 
-    pub table_done : k < get_or a n 0 → number_check (natural n) k p ≡ Done
+    pub table_done : k < get_or a n 0 → number_check (natural n) k p ≡ Ok tt
     table_done = asked_done (natural n) k p r e h (get_or a n 0) entry
 
-  pub shape_left : (k : ℕ) (x : List ℕ) → x ≡ permutation_from 0 (natural_tree (length p) k) → number_check (natural n) k p ≡ Done
+  pub shape_left : (k : ℕ) (x : List ℕ) → x ≡ permutation_from 0 (natural_tree (length p) k) → number_check (natural n) k p ≡ Ok tt
       → x ≡ unless_refused (number_check (natural n) k p) ((natural n).shape k) p
   unfolding permutation
   shape_left k x g done = rw done (g ∙ ap (λ (m : ℕ). permutation_from 0 (natural_tree m k)) entries_long)
 
 -- ---- after the check
 
-module _ (n : ℕ) (p : List ℕ) (r : Outcome) (e : outcome_reply r ≡ check_reply permutations n p) (h : r ≡ Done) where
+module _ (n : ℕ) (p : List ℕ) (r : Outcome) (e : outcome_reply r ≡ check_reply permutations n p) (h : r ≡ Ok tt) where
   pub done_permutation : TreePermutation n p
-  done_permutation = done_formed permutations permutations_tested n p (check_told permutations n p r e Done h)
+  done_permutation = done_formed permutations permutations_tested n p (check_told permutations n p r e (Ok tt) h)
 
   pub done_part : Part 0 p
   done_part = formed_part n p done_permutation (done_small permutations n p r e h)
@@ -111,13 +103,9 @@ pub ruleset answers = (
   answered,
   table_past,
   table_lent,
-  table_below,
   table_done,
   entries_small,
   entries_long,
-  entries_within,
-  size_listed,
-  size_scaled,
   shape_left,
   done_part,
   next_found,

@@ -10,8 +10,7 @@ use Rattle.shape.specs.Numbering.{natural}
 use Rattle.shape.specs.Check.{checked, number_check, successor_check, predecessor_check, numbered}
 use Rattle.shape.specs.Calls.{check_reply, number_reply, shape_reply, shape_end, successor_reply, successor_end, predecessor_reply, predecessor_end}
 use Rattle.shape.specs.Move.{move_check, move_reply, move_end}
-use Rattle.shape.specs.declared.Outcome.{Outcome}
-use Rattle.shape.specs.declared.Numbered.{Numbered}
+use Rattle.shape.specs.Reply.{Outcome, Numbered}
 use Rattle.shape.specs.Determined.{Determined, determined, exact_both}
 use Rattle.shape.proofs.Replies.{outcome_exact, numbered_exact}
 use Rattle.permutation.proofs.check.Reads as check

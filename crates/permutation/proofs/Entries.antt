@@ -4,6 +4,7 @@
 --     Fitting n p seen k                                   the search has come to entry k, and has marked those before it
 --     fitting_none, fitting_next, fitting_end              where it begins, an entry that fits, and no entry left
 --     unfit_zero, unfit_large, unfit_seen                  the three tests of the code: where one of them stops it, there is the answer
+--     fitting                                              the last two lines, for `first_unfit`
 -- Assumes nothing.
 use Rattle.std.proofs.Common.{◌≡◌, ℕ, ◌+◌, ◌-◌, ◌<◌, ◌≤◌, Bool, true, false, List, length, get_or, set, replicate, sym, refl, ◌∙◌, true≢false, arith, length-set, get_or-set_other, get_or-set_same}
 use mathlib.Core.Bool.{not-eq-not}
@@ -59,8 +60,8 @@ fitting_none n p =
     }
 
 module _ (n : ℕ) (p : List ℕ) (seen : List Bool) (k : ℕ) (m : Fitting n p seen k) (whole : length p ≡ n) where
-  pub fitting_end : n ≤ k → k ≡ first_fault 0 (length p) (entry_fits n p)
-  fitting_end h = search_end (entry_fits n p) _ (length p) k m.same (omega arith)
+  pub fitting_end : n ≤ k → n ≡ first_fault 0 (length p) (entry_fits n p)
+  fitting_end h = omega (arith, search_end (entry_fits n p) _ (length p) k m.same (omega arith), m.within)
 
   module _ (on : k < n) where
     here : k < length p
@@ -98,3 +99,6 @@ module _ (n : ℕ) (p : List ℕ) (seen : List Bool) (k : ℕ) (m : Fitting n p 
               marks = marks_next p k (get_or p k 0) (Marked seen) (Marked (set seen (get_or p k 0) true)) m.marks refl now still before;
               same = search_on (entry_fits n p) _ (length p) k m.same here fits;
             }
+
+-- what `first_unfit` is proved with
+pub ruleset fitting = (fitting_none, fitting_next, fitting_end, unfit_zero, unfit_large, unfit_seen)

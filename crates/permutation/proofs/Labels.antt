@@ -182,3 +182,6 @@ module _ (above : List ℕ) (closed x b : ℕ) (l : Links above closed) (some : 
           further = further;
           nearest = nearest;
         }
+
+-- what `last_below` is proved with
+pub ruleset walking = (walk_start, walk_on, walk_less)

@@ -2,6 +2,7 @@
 --     Passed n p above closed k                 the search has come to entry k, and has linked those before it
 --     passed_none, passed_next, passed_end      where it begins, an entry that fits, and no entry left
 --     fault_zero, fault_large, fault_seen, fault_closed      the four tests of the code: where one of them stops it, there is the first fault
+--     passing                                   these, for `first_fault`
 --     permutation_done, permutation_entry, permutation_shape      what the two searches find is what is asked of the contents
 -- Assumes nothing.
 use Rattle.std.proofs.Common.{◌≡◌, ℕ, ◌+◌, ◌-◌, ◌<◌, ◌≤◌, true, false, List, length, get_or, sym, refl, ◌∙◌, arith}
@@ -13,11 +14,11 @@ use Rattle.shape.specs.Form.{entry_fits, triple_fits, permutations}
 use Rattle.shape.specs.Check.{contents}
 use Rattle.shape.specs.Faults.{first_fault, fits}
 use Rattle.shape.specs.declared.Refusal.TheVariants.{Entry, Shape}
-use Rattle.shape.specs.declared.Outcome.TheVariants.{Done, Refused}
+use Rattle.std.specs.Prelude.{Ok, Err}
 use Rattle.shape.proofs.Tests.{triple_means}
 use Rattle.shape.proofs.Searches.{search_on, search_hit, search_end, contents_done, contents_entry, contents_shape}
 use Rattle.permutation.specs.Links.{Linked, Links, LinkedBelow}
-use Rattle.permutation.proofs.Labels.{Marks, marks_none, no_links, only_zero, links_none, relink, linked_next, links_next}
+use Rattle.permutation.proofs.Labels.{Marks, marks_none, no_links, only_zero, links_none, entry_above, relink, linked_next, links_next}
 use Rattle.permutation.proofs.Entries.{refuted, entry_zero, entry_large, entry_seen, entry_fits_lem}
 
 -- ---- the search for the first fault
@@ -44,8 +45,8 @@ passed_none n p =
     }
 
 module _ (n : ℕ) (p above : List ℕ) (closed k : ℕ) (m : Passed n p above closed k) (whole : length p ≡ n) where
-  pub passed_end : n ≤ k → k ≡ first_fault 0 (length p) (fits permutations n p)
-  passed_end h = search_end (fits permutations n p) _ (length p) k m.same (omega arith)
+  pub passed_end : n ≤ k → n ≡ first_fault 0 (length p) (fits permutations n p)
+  passed_end h = omega (arith, search_end (fits permutations n p) _ (length p) k m.same (omega arith), m.within)
 
   module _ (on : k < n) where
     here : k < length p
@@ -112,16 +113,19 @@ module _ (n : ℕ) (p above : List ℕ) (closed k : ℕ) (m : Passed n p above c
                 same = search_on (fits permutations n p) _ (length p) k m.same here (passes h);
               }
 
+-- what `first_fault` is proved with
+pub ruleset passing = (entry_above, passed_none, passed_next, passed_end, fault_zero, fault_large, fault_seen, fault_closed)
+
 -- ---- the contents
 
 module _ (n : ℕ) (p : List ℕ) (whole : length p ≡ n) (r : ℕ) (e : r ≡ first_fault 0 (length p) (fits permutations n p)) where
-  pub permutation_done : r ≡ n → Done ≡ contents permutations n p
+  pub permutation_done : r ≡ n → Ok tt ≡ contents permutations n p
   permutation_done h = contents_done permutations n p r e (h ∙ sym whole)
 
   module _ (a : ℕ) (d : a ≡ first_fault 0 (length p) (entry_fits n p)) where
-    pub permutation_entry : a < n → Refused Entry ≡ contents permutations n p
+    pub permutation_entry : a < n → Err Entry ≡ contents permutations n p
     permutation_entry h = contents_entry permutations n p r e 0 (length p) a (omega arith) (omega arith) d (omega arith)
 
-    pub permutation_shape : (r ≡ n → ⊥) → n ≤ a → Refused Shape ≡ contents permutations n p
+    pub permutation_shape : (r ≡ n → ⊥) → n ≤ a → Err Shape ≡ contents permutations n p
     permutation_shape g h =
         contents_shape permutations n p r e 0 (length p) a (omega arith) (omega arith) d (λ f. g (f ∙ whole)) (omega arith)

@@ -1,10 +1,10 @@
 -- What a move of a tree permutation meets after the check, in the words of the source: p is what the slice holds, r what the check answered, a
 -- the table that the code holds, and t the number of p and what the distance d adds, of 64 bits and wrapping.
---     done_listed, done_scaled, done_within      the table has an entry for the size, its place fits 64 bits, and there are n entries
---     sum_below, sum_done, sum_left              t below that entry: what is said and left is the move's
---     sum_refused, sum_kept                      and otherwise its refusal
+--     done_within                     there are n entries, 35 at most
+--     sum_below, sum_done, sum_left   t below the table's entry for the size: what is said and left is the move's
+--     sum_refused, sum_kept           and otherwise its refusal
 -- Assumes nothing.
-use Rattle.std.proofs.Common.{◌≡◌, ℕ, ◌+◌, ◌*◌, ◌%◌, ◌^◌, ◌<◌, ◌≤◌, true, false, cond, List, length, get_or, ℤ, refl, ap, ◌∙◌, arith, to_z-of_z, w64, Fits, SFits, to_z, of_z}
+use Rattle.std.proofs.Common.{◌≡◌, ℕ, ◌+◌, ◌%◌, ◌^◌, ◌<◌, ◌≤◌, true, false, cond, List, length, get_or, ℤ, refl, ap, ◌∙◌, arith, to_z-of_z, w64, SFits, to_z, of_z}
 use Rattle.catalan.specs.Count.{C, largest_size}
 use Rattle.catalan.specs.Table.{catalans}
 use Rattle.catalan.proofs.Tables.{table_at_lem}
@@ -12,13 +12,12 @@ use Rattle.shape.specs.Tree.{permutation, permutation_from}
 use Rattle.shape.specs.Form.{permutations, permutation_tree}
 use Rattle.shape.specs.Number.{natural_number, natural_tree}
 use Rattle.shape.specs.Numbering.{natural}
-use Rattle.shape.specs.Reply.{outcome_reply, refused}
+use Rattle.shape.specs.Reply.{outcome_reply, refused, Outcome}
 use Rattle.shape.specs.Check.{checked}
 use Rattle.shape.specs.Calls.{check_reply}
 use Rattle.shape.specs.Move.{reaches, moved, end_past, move_reply, move_end}
 use Rattle.shape.specs.declared.Refusal.{Refusal}
-use Rattle.shape.specs.declared.Outcome.{Outcome}
-use Rattle.shape.specs.declared.Outcome.TheVariants.{Done}
+use Rattle.std.specs.Prelude.{Ok}
 use Rattle.shape.proofs.NaturalNumbers.{natural_lawful}
 use Rattle.shape.proofs.Tests.{permutations_tested}
 use Rattle.shape.proofs.Answers.{check_told, done_small}
@@ -26,21 +25,15 @@ use Rattle.shape.proofs.Distances.{reach_done, reach_past, reach_left}
 use Rattle.distance.proofs.Reaching.{sum_reaches, sum_moved, sum_stops}
 use Rattle.permutation.proofs.Answers.{done_permutation}
 
-module _ (n : ℕ) (p : List ℕ) (r : Outcome) (e : outcome_reply r ≡ check_reply permutations n p) (h : r ≡ Done) where
+module _ (n : ℕ) (p : List ℕ) (r : Outcome) (e : outcome_reply r ≡ check_reply permutations n p) (h : r ≡ Ok tt) where
   small : n ≤ largest_size
   small = done_small permutations n p r e h
 
   long : length p ≡ n
   long = (done_permutation n p r e h).entries
 
-  read : checked permutations n p ≡ Done
-  read = check_told permutations n p r e Done h
-
-  pub done_listed : n < 37
-  done_listed = omega (arith, small)
-
-  pub done_scaled : Fits w64 (n * 8)
-  done_scaled = omega (arith, small)
+  read : checked permutations n p ≡ Ok tt
+  read = check_told permutations n p r e (Ok tt) h
 
   pub done_within : length p ≤ largest_size
   done_within = omega (arith, small, long)
@@ -64,7 +57,7 @@ module _ (n : ℕ) (p : List ℕ) (r : Outcome) (e : outcome_reply r ≡ check_r
       pub sum_below : t < C (length p)
       sum_below = rw long below
 
-      pub sum_done : outcome_reply Done ≡ move_reply (natural n) d p
+      pub sum_done : outcome_reply (Ok tt) ≡ move_reply (natural n) d p
       sum_done = reach_done (natural n) d p true read found refl
 
       -- x is what was put

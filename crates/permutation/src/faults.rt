@@ -7,25 +7,27 @@ ghost use Rattle.shape.specs.Check.{contents as contents_of};
 ghost use Rattle.shape.specs.Faults.{first_fault, fits};
 ghost use Rattle.permutation.specs.Links.{Links, LinkedBelow};
 
-use shape::{Outcome, Refusal};
+use shape::Refusal;
 
 // Whether the entries are those of a tree permutation.
-pub(crate) fn contents(size: usize, entries: &[u16]) -> Outcome
+#[tactic(auto, using(crate::proofs::Searches::permutation_done, crate::proofs::Searches::permutation_entry, crate::proofs::Searches::permutation_shape))]
+pub(crate) fn contents(size: usize, entries: &[u16]) -> Result<(), Refusal>
     requires { (size ≤ largest_size) × (length entries.now ≡ size) }
     ensures { result ≡ contents_of permutations size entries.now }
 {
     if first_fault(size, entries) == size {
-        return Outcome::Done;
+        return Ok(());
     }
     if first_unfit(size, entries) < size {
-        return Outcome::Refused(Refusal::Entry);
+        return Err(Refusal::Entry);
     }
-    Outcome::Refused(Refusal::Shape)
+    Err(Refusal::Shape)
 }
 
 // The first entry that is outside 1..n or seen earlier, or smaller than an entry that a larger one has followed. A label seen is linked to
 // the next larger one seen, 36 where there is none, and a label not seen has no link, 0. `closed` is the largest entry that a larger one
 // has followed: an entry closes those below it, so the links are followed from there, and each at most once.
+#[tactic(auto, using(crate::proofs::Searches::passing))]
 fn first_fault(size: usize, entries: &[u16]) -> usize
     requires { (size ≤ largest_size) × (length entries.now ≡ size) }
     ensures { result ≡ first_fault 0 (length entries.now) (fits permutations size entries.now) }
@@ -33,31 +35,22 @@ fn first_fault(size: usize, entries: &[u16]) -> usize
     let mut above = [0u16; 36];
     above[0] = 36;
     let mut closed = 0;
-    let mut k = 0;
-    while k < size {
-        let entry = entries[k] as usize;
-        if entry == 0 {
-            return k;
-        }
-        if entry > size {
-            return k;
-        }
-        if above[entry] != 0 {
-            return k;
-        }
-        if entry < closed {
+    for (k, &entry) in entries.iter().enumerate() {
+        let entry = entry as usize;
+        if entry == 0 || entry > size || above[entry] != 0 || entry < closed {
             return k;
         }
         let below = last_below(&above, closed, entry);
         above[entry] = above[below];
         above[below] = entry as u16;
         closed = below;
-        k += 1;
     }
-    k
+    size
 }
 
-// The largest label below the entry among those linked from `closed` on, `closed` itself where no other is.
+// The largest label below the entry among those linked from `closed` on, `closed` itself where no other is. A `while`: the links lead on, and
+// no index.
+#[tactic(auto, using(crate::proofs::Labels::walking))]
 fn last_below(above: &[u16], closed: usize, entry: usize) -> usize
     requires { Links above.now closed × (closed < entry) × (entry ≤ largest_size) }
     ensures { LinkedBelow above.now closed entry result × (entry ≤ slice_index above.now result) }
@@ -70,25 +63,18 @@ fn last_below(above: &[u16], closed: usize, entry: usize) -> usize
 }
 
 // The first entry that is outside 1..n or seen earlier.
+#[tactic(auto, using(crate::proofs::Entries::fitting))]
 fn first_unfit(size: usize, entries: &[u16]) -> usize
     requires { (size ≤ largest_size) × (length entries.now ≡ size) }
     ensures { result ≡ first_fault 0 (length entries.now) (entry_fits size entries.now) }
 {
     let mut seen = [false; 36];
-    let mut k = 0;
-    while k < size {
-        let entry = entries[k] as usize;
-        if entry == 0 {
-            return k;
-        }
-        if entry > size {
-            return k;
-        }
-        if seen[entry] {
+    for (k, &entry) in entries.iter().enumerate() {
+        let entry = entry as usize;
+        if entry == 0 || entry > size || seen[entry] {
             return k;
         }
         seen[entry] = true;
-        k += 1;
     }
-    k
+    size
 }

@@ -12,97 +12,81 @@ ghost use Rattle.shape.specs.Calls.{check_reply, number_reply, shape_reply, shap
 ghost use Rattle.shape.specs.Calls.{successor_reply, successor_end, predecessor_reply, predecessor_end};
 ghost use Rattle.shape.specs.Move.{move_reply, move_end};
 
-use shape::{Form, Numbered, Outcome, Refusal};
+use shape::{Form, Refusal};
 
 // Whether the entries are a tree permutation of the size.
-pub fn check(size: usize, entries: &[u16]) -> Outcome
+#[tactic(auto, using(crate::proofs::Answers::answers, shape::proofs::Passing::passing))]
+pub fn check(size: usize, entries: &[u16]) -> Result<(), Refusal>
     ensures { outcome_reply result ≡ check_reply permutations size entries.now }
 {
-    match shape::room(Form::Permutation, size, entries.len()) {
-        Outcome::Refused(refusal) => Outcome::Refused(refusal),
-        Outcome::Done => faults::contents(size, entries),
-    }
+    shape::room(Form::Permutation, size, entries.len())?;
+    faults::contents(size, entries)
 }
 
 // The tree permutation's natural number.
-pub fn number(size: usize, entries: &[u16]) -> Numbered
+#[tactic(auto, using(crate::proofs::Answers::answers, shape::proofs::Passing::passing), unfolding(shape::specs::Calls::number_reply, shape::specs::Calls::check_reply))]
+pub fn number(size: usize, entries: &[u16]) -> Result<u64, Refusal>
     ensures { numbered_reply result ≡ number_reply (natural size) entries.now }
 {
-    match check(size, entries) {
-        Outcome::Refused(refusal) => Numbered::Refused(refusal),
-        Outcome::Done => {
-            let catalans = catalan::table();
-            Numbered::Value(natural::number(&catalans, 0, entries))
-        }
-    }
+    check(size, entries)?;
+    let catalans = catalan::table();
+    Ok(natural::number(&catalans, 0, entries))
 }
 
 // The tree permutation with that natural number, put into `entries`, which may hold anything before.
-pub fn shape(size: usize, number: u64, entries: &mut [u16]) -> Outcome
+#[tactic(auto, using(crate::proofs::Answers::answers, shape::proofs::Passing::passing), unfolding(shape::specs::Calls::shape_reply, shape::specs::Calls::shape_end))]
+pub fn shape(size: usize, number: u64, entries: &mut [u16]) -> Result<(), Refusal>
     ensures result_value { outcome_reply result ≡ shape_reply (natural size) number entries.old }
     ensures entries_after { entries.new ≡ shape_end (natural size) number entries.old }
 {
-    match shape::room(Form::Permutation, size, entries.len()) {
-        Outcome::Refused(refusal) => Outcome::Refused(refusal),
-        Outcome::Done => {
-            let catalans = catalan::table();
-            if number >= catalans[size] {
-                return Outcome::Refused(Refusal::Number);
-            }
-            natural::shape(&catalans, number, entries);
-            Outcome::Done
-        }
+    shape::room(Form::Permutation, size, entries.len())?;
+    let catalans = catalan::table();
+    if number >= catalans[size] {
+        return Err(Refusal::Number);
     }
+    natural::shape(&catalans, number, entries);
+    Ok(())
 }
 
 // The next tree permutation, in the place of this one.
-pub fn successor(size: usize, entries: &mut [u16]) -> Outcome
+#[tactic(auto, using(crate::proofs::Answers::answers, shape::proofs::Passing::passing), unfolding(shape::specs::Calls::successor_reply, shape::specs::Calls::successor_end, shape::specs::Calls::check_reply, shape::specs::Check::successor_check))]
+pub fn successor(size: usize, entries: &mut [u16]) -> Result<(), Refusal>
     ensures result_value { outcome_reply result ≡ successor_reply (natural size) entries.old }
     ensures entries_after { entries.new ≡ successor_end (natural size) entries.old }
 {
-    match check(size, entries) {
-        Outcome::Refused(refusal) => Outcome::Refused(refusal),
-        Outcome::Done => {
-            if natural::next(0, entries) {
-                return Outcome::Done;
-            }
-            Outcome::Refused(Refusal::Last)
-        }
+    check(size, entries)?;
+    if natural::next(0, entries) {
+        return Ok(());
     }
+    Err(Refusal::Last)
 }
 
 // The tree permutation before this one, in its place.
-pub fn predecessor(size: usize, entries: &mut [u16]) -> Outcome
+#[tactic(auto, using(crate::proofs::Answers::answers, shape::proofs::Passing::passing), unfolding(shape::specs::Calls::predecessor_reply, shape::specs::Calls::predecessor_end, shape::specs::Calls::check_reply, shape::specs::Check::predecessor_check))]
+pub fn predecessor(size: usize, entries: &mut [u16]) -> Result<(), Refusal>
     ensures result_value { outcome_reply result ≡ predecessor_reply (natural size) entries.old }
     ensures entries_after { entries.new ≡ predecessor_end (natural size) entries.old }
 {
-    match check(size, entries) {
-        Outcome::Refused(refusal) => Outcome::Refused(refusal),
-        Outcome::Done => {
-            if natural::previous(0, entries) {
-                return Outcome::Done;
-            }
-            Outcome::Refused(Refusal::First)
-        }
+    check(size, entries)?;
+    if natural::previous(0, entries) {
+        return Ok(());
     }
+    Err(Refusal::First)
 }
 
 // The tree permutation at the distance, on or back, in the place of this one.
-pub fn move_by(size: usize, distance: i64, entries: &mut [u16]) -> Outcome
+#[tactic(auto, using(crate::proofs::Answers::answers, shape::proofs::Passing::passing), unfolding(shape::specs::Move::move_reply, shape::specs::Move::move_end, shape::specs::Move::move_check, shape::specs::Calls::check_reply))]
+pub fn move_by(size: usize, distance: i64, entries: &mut [u16]) -> Result<(), Refusal>
     ensures result_value { outcome_reply result ≡ move_reply (natural size) distance entries.old }
     ensures entries_after { entries.new ≡ move_end (natural size) distance entries.old }
 {
-    match check(size, entries) {
-        Outcome::Refused(refusal) => Outcome::Refused(refusal),
-        Outcome::Done => {
-            let catalans = catalan::table();
-            let number = natural::number(&catalans, 0, entries);
-            let target = std::num::wrapping_add_u64(number, distance::added(distance));
-            if target < catalans[size] {
-                natural::shape(&catalans, target, entries);
-                return Outcome::Done;
-            }
-            Outcome::Refused(distance::end_past(distance))
-        }
+    check(size, entries)?;
+    let catalans = catalan::table();
+    let number = natural::number(&catalans, 0, entries);
+    let target = std::num::wrapping_add_u64(number, distance::added(distance));
+    if target < catalans[size] {
+        natural::shape(&catalans, target, entries);
+        return Ok(());
     }
+    Err(distance::end_past(distance))
 }
