@@ -8,8 +8,7 @@ use Prim.Native.Nat.{ℕ}
 use Rattle.shape.specs.Form.{patterns}
 use Rattle.shape.specs.Check.{record_length, numbered}
 use Rattle.shape.specs.Calls.{conversion_check}
-use Rattle.shape.specs.declared.Outcome.{Outcome}
-use Rattle.shape.specs.declared.Numbered.{Numbered}
+use Rattle.shape.specs.Reply.{Outcome, Numbered}
 use Rattle.shape.specs.Determined.{Determined, determined, exact_both}
 use Rattle.shape.proofs.Replies.{outcome_exact, numbered_exact}
 use Rattle.record.specs.Record.{size_in}

@@ -14,8 +14,8 @@ use Rattle.shape.specs.Every.{All}
 use Rattle.shape.specs.Check.{room_of, contents, checked, reply}
 use Rattle.shape.specs.Calls.{conversion_check}
 use Rattle.shape.specs.declared.Refusal.TheVariants.{Size, Length, Shape, Record}
-use Rattle.shape.specs.declared.Outcome.{Outcome}
-use Rattle.shape.specs.declared.Outcome.TheVariants.{Done, Refused}
+use Rattle.shape.specs.Reply.{Outcome}
+use Rattle.std.specs.Prelude.{Ok, Err}
 use Rattle.record.specs.Bits.{bits, value_after, value, bytes, bits_of}
 use Rattle.record.specs.Record.{fill, record_bits, record_of, size_in, mark_in, places_in, fill_in}
 use Rattle.record.specs.Calls.{layout_check, places_check, read_check, read_reply, read_end, write_end}
@@ -70,7 +70,7 @@ write_short = refl
 abbrev six : List ℕ
 six = replicate 6 0
 
-read_said : read_reply (12 ∷ 224 ∷ []) six ≡ reply Done 3
+read_said : read_reply (12 ∷ 224 ∷ []) six ≡ reply (Ok tt) 3
 unfolding read_reply read_check layout_check places_check every count size_in mark_in places_in fill_in bits_of bits value value_after
 read_said = refl
 
@@ -84,23 +84,23 @@ read_kept = refl
 
 abbrev tries : List (List ℕ × Outcome)
 tries =
-    (12 ∷ 224 ∷ [], Done)
+    (12 ∷ 224 ∷ [], (Ok tt))
     -- empty
-    ∷ ([], Refused Record)
+    ∷ ([], Err Record)
     -- size 0, and size 36 with the mark 11
-    ∷ (0 ∷ [], Refused Size)
-    ∷ (147 ∷ 224 ∷ [], Refused Size)
+    ∷ (0 ∷ [], Err Size)
+    ∷ (147 ∷ 224 ∷ [], Err Size)
     -- the mark 01; a byte too few, and one too many; the fill 01
-    ∷ (13 ∷ 224 ∷ [], Refused Record)
-    ∷ (12 ∷ [], Refused Record)
-    ∷ (12 ∷ 224 ∷ 0 ∷ [], Refused Record)
-    ∷ (12 ∷ 225 ∷ [], Refused Record)
+    ∷ (13 ∷ 224 ∷ [], Err Record)
+    ∷ (12 ∷ [], Err Record)
+    ∷ (12 ∷ 224 ∷ 0 ∷ [], Err Record)
+    ∷ (12 ∷ 225 ∷ [], Err Record)
     -- size 5, for which six places are too few, and the same with the mark 01
-    ∷ (20 ∷ 170 ∷ 128 ∷ [], Refused Length)
-    ∷ (21 ∷ 170 ∷ 128 ∷ [], Refused Record)
+    ∷ (20 ∷ 170 ∷ 128 ∷ [], Err Length)
+    ∷ (21 ∷ 170 ∷ 128 ∷ [], Err Record)
     -- 011000, and 01100000, for which six places are too few
-    ∷ (12 ∷ 96 ∷ [], Refused Shape)
-    ∷ (16 ∷ 96 ∷ [], Refused Length)
+    ∷ (12 ∷ 96 ∷ [], Err Shape)
+    ∷ (16 ∷ 96 ∷ [], Err Length)
     ∷ []
 
 read_tries : All (λ t. read_check t.0 six ≡ t.1) tries

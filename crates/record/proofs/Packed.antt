@@ -3,9 +3,10 @@
 --     unpacked_long, unpacked_next   the places of a record: as many as there is room for, and each of them a bit of its byte
 --     byte_none, byte_next, byte_end eight places read as a number, one more place at a time
 --     byte_doubled, byte_fits        which stays within a byte
---     Read, reading                  the loops that read them: what holds so far, and these laws for `search`
+--     Read                           the loops that read them: what holds so far
 --     packed_first, packed_next      its first byte is four times the size, and each other one holds the next eight places
---     packed_most, packed_from       of which there are not too many, and some are left for each byte
+--     packed_from                    of which some are left for each byte
+-- What the proofs of the loops use, each a set: reads, packs, unpacks.
 -- Assumes nothing.
 use mathlib.Core.Path.{◌≡◌, refl, sym, ap, ◌∙◌}
 use mathlib.Core.List.{List, [], ◌∷◌, ◌++◌, append_assoc}
@@ -14,7 +15,6 @@ use native.Mathlib.Nat.{sub_self, add-sub_of_le, min-le_left, lt_of_lt_of_le}
 use native.Mathlib.Numerals.{add-one}
 use native.Mathlib.Omega.{arith}
 use native.Mathlib.Decide.{dec_lt}
-use borrow.Author.Rules.{rules}
 use mir.Val.{Fits}
 use mir.Syntax.{w8}
 use lib.ListN.{length, get_or, set, take, drop, replicate, length-append, length-take, length-drop, get_or-append, get_or-eq_default}
@@ -115,7 +115,7 @@ byte_end p from i b end most e =
 abbrev pub Read : List ℕ → ℕ → ℕ → ℕ → Type 0
 Read p from b i = (from ≤ i) × (i ≤ from + 8) × (b ≡ value (take (i - from) (drop from p ++ replicate 8 0)))
 
-pub ruleset reading = (rules, byte_none, byte_next, byte_doubled, byte_fits, byte_end)
+pub ruleset reads = (byte_none, byte_next, byte_doubled, byte_fits, byte_end)
 
 -- ---- the record of a pattern
 
@@ -157,9 +157,6 @@ module _ (n : ℕ) (p : List ℕ) where
   pub packed_first : (q : List ℕ) → length q ≡ record_length n → n ≤ largest_size → take 1 (set q 0 (4 * n)) ≡ take 1 (record_of n p)
   packed_first q room small = agrees_next q (record_of n p) 0 (record_length n) refl (4 * n) (omega arith) room (record_long n p) (first_byte small)
 
-  pub packed_most : Feasible n p → n ≤ largest_size → length p ≤ 2 * largest_size
-  packed_most formed small = omega (arith, feasible_length n p formed)
-
   module _ (formed : Feasible n p) (i m : ℕ) (start : 1 ≤ i) (on : i < m) (room : m ≡ record_length n) where
     pub packed_from : 8 * (i - 1) ≤ length p
     packed_from = omega (arith, feasible_length n p formed)
@@ -175,3 +172,7 @@ module _ (n : ℕ) (p : List ℕ) where
         ∙ drop-append-add (bits 8 (4 * n)) (p ++ replicate (fill n) 0) (8 * k) ∙ drop-append-le (8 * k) p (replicate (fill n) 0) packed_from in
         e ∙ ap value (take_filled 8 (drop (8 * k) p) 8 (fill n) (omega arith) there ∙ ap (take 8) (sym whole))
         ∙ sym (bytes_at (record_length n) (record_bits n p) i (omega arith))
+
+pub ruleset packs = (agrees_next, agrees_end, record_long, packed_first, packed_from, packed_next)
+
+pub ruleset unpacks = (agrees_next, agrees_end, unpacked_long, unpacked_next)

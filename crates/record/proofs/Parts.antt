@@ -23,7 +23,7 @@ use Rattle.catalan.specs.Count.{largest_size}
 use Rattle.shape.specs.Form.{every}
 use Rattle.shape.specs.Check.{sized, Sized, record_length}
 use Rattle.shape.specs.declared.Refusal.TheVariants.{Size, Record}
-use Rattle.shape.specs.declared.Outcome.TheVariants.{Done, Refused}
+use Rattle.std.specs.Prelude.{Ok, Err}
 use Rattle.shape.proofs.Lists.{all_at, all_of}
 use Rattle.shape.proofs.Tests.{equal_means, every_means}
 use Rattle.shape.proofs.Checks.{sized_means}
@@ -119,7 +119,7 @@ zeros_mean k x =
 -- ---- the tests
 
 module _ (r : List ℕ) where
-  pub layout_empty : length r ≡ 0 → Refused Record ≡ layout_check r
+  pub layout_empty : length r ≡ 0 → Err Record ≡ layout_check r
   unfolding layout_check
   layout_empty e = simp (le-ltb 0 (length r) (omega arith))
 
@@ -130,23 +130,23 @@ module _ (r : List ℕ) where
     size : size_in r ≡ get_or r 0 0 / 4
     size = size_found r (omega arith) (omega (arith, byte 0))
 
-    unsized : (Sized (get_or r 0 0 / 4) → ⊥) → Refused Size ≡ layout_check r
+    unsized : (Sized (get_or r 0 0 / 4) → ⊥) → Err Size ≡ layout_check r
     unfolding layout_check
     unsized bad =
         let fails : sized (get_or r 0 0 / 4) ≡ false = (not-eq-not {b = false}).0 (λ t. bad ((sized_means (get_or r 0 0 / 4)).0 t)) in
         rw (there, size, fails)
 
-    pub layout_none : get_or r 0 0 / 4 ≡ 0 → Refused Size ≡ layout_check r
+    pub layout_none : get_or r 0 0 / 4 ≡ 0 → Err Size ≡ layout_check r
     layout_none none = unsized (λ (low, high). omega arith)
 
-    pub layout_large : largest_size < get_or r 0 0 / 4 → Refused Size ≡ layout_check r
+    pub layout_large : largest_size < get_or r 0 0 / 4 → Err Size ≡ layout_check r
     layout_large large = unsized (λ (low, high). omega arith)
 
     module _ (not_None : get_or r 0 0 / 4 ≡ 0 → ⊥) (small : get_or r 0 0 / 4 ≤ largest_size) where
       fits : sized (get_or r 0 0 / 4) ≡ true
       fits = (sized_means (get_or r 0 0 / 4)).1 (omega arith, small)
 
-      pub layout_mark : (get_or r 0 0 % 4 ≡ 0 → ⊥) → Refused Record ≡ layout_check r
+      pub layout_mark : (get_or r 0 0 % 4 ≡ 0 → ⊥) → Err Record ≡ layout_check r
       unfolding layout_check
       layout_mark other = rw (there, size, fits, mark_found r (omega arith), ne_eqb (get_or r 0 0 % 4) 0 other)
 
@@ -154,7 +154,7 @@ module _ (r : List ℕ) where
         marked : eqb (get_or r 0 0 % 4) 0 ≡ true
         marked = eq-eqb (get_or r 0 0 % 4) 0 mark
 
-        pub layout_length : (length r ≡ record_length (get_or r 0 0 / 4) → ⊥) → Refused Record ≡ layout_check r
+        pub layout_length : (length r ≡ record_length (get_or r 0 0 / 4) → ⊥) → Err Record ≡ layout_check r
         unfolding layout_check
         layout_length other =
             rw (there, size, fits, mark_found r (omega arith), marked, ne_eqb (length r) (record_length (get_or r 0 0 / 4)) other)
@@ -165,13 +165,17 @@ module _ (r : List ℕ) where
               let found = fill_found r (long ∙ ap record_length (sym size)) ∙ ap (λ (n : ℕ). bits (fill n) (get_or r (length r - 1) 0)) size in
               rw (found, e) (zeros_mean (fill (get_or r 0 0 / 4)) (get_or r (length r - 1) 0))
 
-          pub layout_fill : (get_or r (length r - 1) 0 % unit ≡ 0 → ⊥) → Refused Record ≡ layout_check r
+          pub layout_fill : (get_or r (length r - 1) 0 % unit ≡ 0 → ⊥) → Err Record ≡ layout_check r
           unfolding layout_check
           layout_fill other =
               let fails : zeros (fill_in r) ≡ false = (not-eq-not {b = false}).0 (λ t. other (filled.0 t)) in
               rw (there, size, fits, mark_found r (omega arith), marked, eq-eqb (length r) (record_length (get_or r 0 0 / 4)) long, fails)
 
-          pub layout_passes : get_or r (length r - 1) 0 % unit ≡ 0 → Done ≡ layout_check r
+          pub layout_passes : get_or r (length r - 1) 0 % unit ≡ 0 → Ok tt ≡ layout_check r
           unfolding layout_check
           layout_passes none =
               rw (there, size, fits, mark_found r (omega arith), marked, eq-eqb (length r) (record_length (get_or r 0 0 / 4)) long, filled.1 none)
+
+pub ruleset units = (unit_none, unit_one, unit_two, unit_three)
+
+pub ruleset found = (layout_empty, layout_none, layout_large, layout_mark, layout_length, layout_fill, layout_passes, unit_some)

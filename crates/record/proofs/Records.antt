@@ -25,7 +25,7 @@ use Rattle.shape.specs.Tree.{Tree, size, pattern}
 use Rattle.shape.specs.Form.{patterns, Feasible}
 use Rattle.shape.specs.Check.{Sized, record_length, reply}
 use Rattle.shape.specs.Calls.{conversion_check}
-use Rattle.shape.specs.declared.Outcome.TheVariants.{Done}
+use Rattle.std.specs.Prelude.{Ok}
 use Rattle.shape.specs.Every.{All}
 use Rattle.shape.proofs.Lists.{all_at, all_of, all_map, all_append}
 use Rattle.shape.proofs.Patterns.{feasible_length, pattern_formed}
@@ -127,7 +127,7 @@ module _ (n : ℕ) (p : List ℕ) (sized : Sized n) (formed : Feasible n p) wher
         filled = λ i l. all_at (λ b. b ≡ 0) (fill_in r) (subst⁻¹ (All (λ b. b ≡ 0)) fill_back (zeros_all (fill n))) i l;
       }
 
-  pub record_read : (q : List ℕ) → length q ≡ 2 * n → read_check r q ≡ Done
+  pub record_read : (q : List ℕ) → length q ≡ 2 * n → read_check r q ≡ Ok tt
   record_read q e = (read_passes r q).1 (rw size_back sized, record_laid, rw size_back e, rw (size_back, places_back) formed)
 
 -- ---- what is found in the bytes of a record
@@ -171,7 +171,7 @@ module _ (r : List ℕ) (laid : Laid r) where
   laid_record h = sym (bits_bytes r h) ∙ ap₂ {C = List ℕ} bytes laid.long laid_bits
 
 module _ (r q : List ℕ) (all_bytes : All Byte r) where
-  pub read_done : (read_check r q ≡ Done)
+  pub read_done : (read_check r q ≡ Ok tt)
       ↔ (Sized (size_in r) × (length q ≡ 2 * size_in r) × Feasible (size_in r) (places_in r) × (r ≡ record_of (size_in r) (places_in r)))
   read_done =
       Iff.trans (read_passes r q) (
@@ -181,7 +181,7 @@ module _ (r q : List ℕ) (all_bytes : All Byte r) where
 
 -- ---- there and back
 
-module _ (n : ℕ) (p r q : List ℕ) (done : conversion_check patterns record_length n p r ≡ Done) (room : length q ≡ 2 * n) where
+module _ (n : ℕ) (p r q : List ℕ) (done : conversion_check patterns record_length n p r ≡ Ok tt) (room : length q ≡ 2 * n) where
   accepted : Sized n × (length r ≡ record_length n) × Feasible n p
   accepted = (conversion_done patterns record_length n p r patterns_tested).0 done
 
@@ -189,10 +189,10 @@ module _ (n : ℕ) (p r q : List ℕ) (done : conversion_check patterns record_l
   unfolding write_end
   record_left = rw done
 
-  record_accepted : read_check (record_of n p) q ≡ Done
+  record_accepted : read_check (record_of n p) q ≡ Ok tt
   record_accepted = record_read n p accepted.0 accepted.2 q room
 
-  pub write_read : read_reply (write_end n p r) q ≡ reply Done n
+  pub write_read : read_reply (write_end n p r) q ≡ reply (Ok tt) n
   unfolding read_reply
   write_read = rw (record_left, record_accepted, size_back n p accepted.0 accepted.2)
 
@@ -200,8 +200,8 @@ module _ (n : ℕ) (p r q : List ℕ) (done : conversion_check patterns record_l
   unfolding read_end
   write_read_places = rw (record_left, record_accepted) (places_back n p accepted.0 accepted.2)
 
-module _ (r q r' : List ℕ) (all_bytes : All Byte r) (done : read_check r q ≡ Done) (room : length r' ≡ length r) where
-  pub read_write_done : conversion_check patterns record_length (size_in r) (read_end r q) r' ≡ Done
+module _ (r q r' : List ℕ) (all_bytes : All Byte r) (done : read_check r q ≡ Ok tt) (room : length r' ≡ length r) where
+  pub read_write_done : conversion_check patterns record_length (size_in r) (read_end r q) r' ≡ Ok tt
   unfolding read_end
   read_write_done =
       let (s, l, e, f) = (read_passes r q).0 done in
@@ -217,7 +217,7 @@ module _ (r q r' : List ℕ) (all_bytes : All Byte r) (done : read_check r q ≡
 -- ---- records and trees
 
 pub record_written : (n : ℕ) (r : List ℕ) → Sized n → All Byte r
-    → ((q : List ℕ) × (read_check r q ≡ Done) × (size_in r ≡ n)) ↔ ((t : Tree) × (size t ≡ n) × (record_of n (pattern t) ≡ r))
+    → ((q : List ℕ) × (read_check r q ≡ Ok tt) × (size_in r ≡ n)) ↔ ((t : Tree) × (size t ≡ n) × (record_of n (pattern t) ≡ r))
 record_written n r s h = (
   λ (q, done, e).
       let (_, l, _, f) = (read_passes r q).0 done in

@@ -23,12 +23,11 @@ use lib.Dec.{ltb, eqb}
 use lib.ListN.{length, get_or, drop, length-drop}
 use lib.Seq.{length-take-le}
 use Rattle.shape.specs.Form.{patterns, every, balance_fits, place_fits, Feasible, Passes}
-use Rattle.shape.specs.Reply.{refusal_number}
+use Rattle.shape.specs.Reply.{refusal_number, Outcome}
 use Rattle.shape.specs.Check.{unless, and_then, sized, Sized, record_length}
 use Rattle.shape.specs.declared.Refusal.{Refusal}
 use Rattle.shape.specs.declared.Refusal.TheVariants.{Size, Length, Shape, Record}
-use Rattle.shape.specs.declared.Outcome.{Outcome}
-use Rattle.shape.specs.declared.Outcome.TheVariants.{Done, Refused}
+use Rattle.std.specs.Prelude.{Ok, Err}
 use Rattle.shape.specs.Every.{All}
 use Rattle.shape.proofs.Lists.{all_at}
 use Rattle.shape.proofs.Tests.{le_means, less_means, equal_means, and_means, every_means, every_all, patterns_tested}
@@ -42,13 +41,13 @@ use Rattle.record.proofs.Bits.{Bit, all_take, all_drop, length_bits_of, bits_of_
 
 -- the answer f: the test fails, or it passes and f comes later all the same
 failed_twice : {P : Type 0} (t : Bool) (f : Refusal) (next : Outcome) → (t ≡ true) ↔ P
-    → (unless t f next ≡ Refused f) ↔ ((P → ⊥) ⊎ (P × (next ≡ Refused f)))
+    → (unless t f next ≡ Err f) ↔ ((P → ⊥) ⊎ (P × (next ≡ Err f)))
 failed_twice true f next m = (λ r. inr (m.0 refl, r), λ c. elim c [ inl g ↦ absurd (g (m.0 refl)) | inr (k, r) ↦ r ])
 failed_twice false f next m = (λ r. inl (λ k. false≢true (m.1 k)), λ c. refl)
 
 -- Three tests in a row with the same refusal are one test.
 gathered : (e s m l f : Bool) (next : Outcome)
-    → and_then (unless e Record (unless s Size (unless m Record (unless l Record (unless f Record Done))))) next
+    → and_then (unless e Record (unless s Size (unless m Record (unless l Record (unless f Record (Ok tt)))))) next
     ≡ unless e Record (unless s Size (unless (m && l && f) Record next))
 gathered false s m l f next = refl
 gathered true false m l f next = refl
@@ -57,9 +56,9 @@ gathered true true true false f next = refl
 gathered true true true true false next = refl
 gathered true true true true true next = refl
 
-then_done : (o : Outcome) → and_then o Done ≡ o
-then_done Done = refl
-then_done (Refused f) = refl
+then_done : (o : Outcome) → and_then o (Ok tt) ≡ o
+then_done (Ok _) = refl
+then_done (Err f) = refl
 
 -- ---- the tests of a record
 
@@ -115,8 +114,8 @@ module _ (r : List ℕ) where
         λ (s, l, q). (let long = l.long in omega arith, (s, (l, q))),
       ))
 
-  pub layout_done : (layout_check r ≡ Done) ↔ (Sized (size_in r) × Laid r)
-  layout_done = Iff.trans (rw then_done at (after_passed Done Done tt tt (λ h. Iff.rfl))) (λ (s, l, e). (s, l), λ (s, l). (s, l, refl))
+  pub layout_done : (layout_check r ≡ Ok tt) ↔ (Sized (size_in r) × Laid r)
+  layout_done = Iff.trans (rw then_done at (after_passed (Ok tt) (Ok tt) tt tt (λ h. Iff.rfl))) (λ (s, l, e). (s, l), λ (s, l). (s, l, refl))
 
 module _ (r q : List ℕ) where
   abbrev fits : Bool
@@ -141,20 +140,20 @@ module _ (r q : List ℕ) where
 
   places_only : (P : ℕ → Type 0) → P 2 → P 4 → Refuses P (places_check r q)
   unfolding places_check
-  places_only P g h = refuses_unless P fits Length (unless balanced Shape Done) g (refuses_unless P balanced Shape Done h tt)
+  places_only P g h = refuses_unless P fits Length (unless balanced Shape (Ok tt)) g (refuses_unless P balanced Shape (Ok tt) h tt)
 
   tests : read_check r q ≡ unless (some r) Record (after_size r (places_check r q))
   unfolding read_check
   tests = layout_after r (places_check r q)
 
   -- refusal 10 after the test of the size
-  laid_refused : (after_size r (places_check r q) ≡ Refused Record) ↔ (Sized (size_in r) × (Laid r → ⊥))
+  laid_refused : (after_size r (places_check r q) ≡ Err Record) ↔ (Sized (size_in r) × (Laid r → ⊥))
   laid_refused =
       let later : Other Record (places_check r q) = places_only (λ i. i ≡ 10 → ⊥) (λ e. omega arith) (λ e. omega arith) in
-      passed (sized (size_in r)) Size (unless (laid r) Record (places_check r q)) (Refused Record) (sized_means (size_in r)) (λ e. omega arith)
+      passed (sized (size_in r)) Size (unless (laid r) Record (places_check r q)) (Err Record) (sized_means (size_in r)) (λ e. omega arith)
       (λ s. failed (laid r) Record (places_check r q) (laid_means r) later)
 
-  pub read_record : (read_check r q ≡ Refused Record) ↔ ((length r ≡ 0) ⊎ (Sized (size_in r) × (Laid r → ⊥)))
+  pub read_record : (read_check r q ≡ Err Record) ↔ ((length r ≡ 0) ⊎ (Sized (size_in r) × (Laid r → ⊥)))
   read_record =
       rw tests (Iff.trans (failed_twice (some r) Record (after_size r (places_check r q)) (less_means 0 (length r))) (
         λ c. elim c [ inl g ↦ inl (omega arith) | inr (k, e) ↦ inr (laid_refused.0 e) ],
@@ -164,12 +163,12 @@ module _ (r q : List ℕ) where
         ],
       ))
 
-  pub read_size : (read_check r q ≡ Refused Size) ↔ ((0 < length r) × (Sized (size_in r) → ⊥))
+  pub read_size : (read_check r q ≡ Err Size) ↔ ((0 < length r) × (Sized (size_in r) → ⊥))
   read_size =
       let P : ℕ → Type 0 = λ i. i ≡ 1 → ⊥ in
       let later : Other Size (unless (laid r) Record (places_check r q)) =
       refuses_unless P (laid r) Record (places_check r q) (λ e. omega arith) (places_only P (λ e. omega arith) (λ e. omega arith)) in
-      rw tests (passed (some r) Record (after_size r (places_check r q)) (Refused Size) (less_means 0 (length r)) (λ e. omega arith)
+      rw tests (passed (some r) Record (after_size r (places_check r q)) (Err Size) (less_means 0 (length r)) (λ e. omega arith)
       (λ k. failed (sized (size_in r)) Size (unless (laid r) Record (places_check r q)) (sized_means (size_in r)) later))
 
   -- what the tests of the places answer, once all before them have passed
@@ -179,37 +178,37 @@ module _ (r q : List ℕ) where
   places_after = after_passed r (places_check r q)
 
   -- and the last of them, once there is room
-  balance_after : {Q : Type 0} (a : Outcome) → Other Record a → Other Size a → Other Length a → (Laid r → (unless balanced Shape Done ≡ a) ↔ Q)
+  balance_after : {Q : Type 0} (a : Outcome) → Other Record a → Other Size a → Other Length a → (Laid r → (unless balanced Shape (Ok tt) ≡ a) ↔ Q)
       → (read_check r q ≡ a) ↔ (Sized (size_in r) × Laid r × (length q ≡ 2 * size_in r) × Q)
   unfolding places_check
   balance_after a f g h e =
-      Iff.trans (places_after a f g (λ l. passed fits Length (unless balanced Shape Done) a fits_means h (λ k. e l))) (
+      Iff.trans (places_after a f g (λ l. passed fits Length (unless balanced Shape (Ok tt)) a fits_means h (λ k. e l))) (
         λ (s, l, (k, x)). (s, l, k, x),
         λ (s, l, k, x). (s, l, (k, x)),
       )
 
-  pub read_length : (read_check r q ≡ Refused Length) ↔ (Sized (size_in r) × Laid r × (length q ≡ 2 * size_in r → ⊥))
+  pub read_length : (read_check r q ≡ Err Length) ↔ (Sized (size_in r) × Laid r × (length q ≡ 2 * size_in r → ⊥))
   unfolding places_check
   read_length =
-      let later : Other Length (unless balanced Shape Done) =
-      refuses_unless (λ i. i ≡ 2 → ⊥) balanced Shape Done (λ e. omega arith) tt in
-      places_after (Refused Length) (λ e. omega arith) (λ e. omega arith)
-      (λ h. failed fits Length (unless balanced Shape Done) fits_means later)
+      let later : Other Length (unless balanced Shape (Ok tt)) =
+      refuses_unless (λ i. i ≡ 2 → ⊥) balanced Shape (Ok tt) (λ e. omega arith) tt in
+      places_after (Err Length) (λ e. omega arith) (λ e. omega arith)
+      (λ h. failed fits Length (unless balanced Shape (Ok tt)) fits_means later)
 
-  pub read_shape : (read_check r q ≡ Refused Shape)
+  pub read_shape : (read_check r q ≡ Err Shape)
       ↔ (Sized (size_in r) × Laid r × (length q ≡ 2 * size_in r) × (Feasible (size_in r) (places_in r) → ⊥))
   read_shape =
-      balance_after (Refused Shape) (λ e. omega arith) (λ e. omega arith) (λ e. omega arith)
-      (λ h. failed balanced Shape Done (balanced_means h) tt)
+      balance_after (Err Shape) (λ e. omega arith) (λ e. omega arith) (λ e. omega arith)
+      (λ h. failed balanced Shape (Ok tt) (balanced_means h) tt)
 
-  pub read_passes : (read_check r q ≡ Done) ↔ (Sized (size_in r) × Laid r × (length q ≡ 2 * size_in r) × Feasible (size_in r) (places_in r))
+  pub read_passes : (read_check r q ≡ Ok tt) ↔ (Sized (size_in r) × Laid r × (length q ≡ 2 * size_in r) × Feasible (size_in r) (places_in r))
   read_passes =
-      Iff.trans (balance_after Done tt tt tt (λ h. passed balanced Shape Done Done (balanced_means h) tt (λ k. Iff.rfl))) (
+      Iff.trans (balance_after (Ok tt) tt tt tt (λ h. passed balanced Shape (Ok tt) (Ok tt) (balanced_means h) tt (λ k. Iff.rfl))) (
         λ (s, l, e, (f, d)). (s, l, e, f),
         λ (s, l, e, f). (s, l, e, (f, refl)),
       )
 
-  pub read_others : (f : Refusal) → read_check r q ≡ Refused f
+  pub read_others : (f : Refusal) → read_check r q ≡ Err f
       → (refusal_number f ≡ 1) ⊎ (refusal_number f ≡ 2) ⊎ (refusal_number f ≡ 4) ⊎ (refusal_number f ≡ 10)
   read_others f e =
       let P : ℕ → Type 0 = λ i. (i ≡ 1) ⊎ (i ≡ 2) ⊎ (i ≡ 4) ⊎ (i ≡ 10) in

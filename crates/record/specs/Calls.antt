@@ -5,14 +5,12 @@
 --     places_check                  and of the places, and of the slice that they are to be put into
 --     read_check, read_reply, read_end   the pattern of a record, and its size
 -- Assumes nothing.
-use Rattle.std.specs.Prelude.{List, ℕ, ◌*◌, ltb, eqb, length, get_or}
+use Rattle.std.specs.Prelude.{List, ℕ, ◌*◌, ltb, eqb, length, get_or, Ok}
 use Rattle.shape.specs.Form.{patterns, every, balance_fits}
-use Rattle.shape.specs.Reply.{Reply, outcome_reply}
+use Rattle.shape.specs.Reply.{Reply, outcome_reply, Outcome}
 use Rattle.shape.specs.Check.{unless, and_then, sized, record_length, reply, unless_refused}
 use Rattle.shape.specs.Calls.{conversion_check}
 use Rattle.shape.specs.declared.Refusal.TheVariants.{Size, Length, Shape, Record}
-use Rattle.shape.specs.declared.Outcome.{Outcome}
-use Rattle.shape.specs.declared.Outcome.TheVariants.{Done}
 use Rattle.record.specs.Record.{record_of, size_in, mark_in, places_in, fill_in}
 
 -- 01, Refusal numbers, 1 to 4.
@@ -29,12 +27,12 @@ layout_check r =
     (unless (sized (size_in r)) Size
     (unless (eqb (mark_in r) 0) Record
     (unless (eqb (length r) (record_length (size_in r))) Record
-    (unless (every (length (fill_in r)) (λ i. eqb (get_or (fill_in r) i 0) 0)) Record Done))))
+    (unless (every (length (fill_in r)) (λ i. eqb (get_or (fill_in r) i 0) 0)) Record (Ok tt)))))
 
 -- Then room for the places 2, then 4. A bit is never above 1, so 3 does not come.
 unfoldable pub places_check : List ℕ → List ℕ → Outcome
 places_check r q =
-    unless (eqb (length q) (2 * size_in r)) Length (unless (every (2 * size_in r) (balance_fits (size_in r) (places_in r))) Shape Done)
+    unless (eqb (length q) (2 * size_in r)) Length (unless (every (2 * size_in r) (balance_fits (size_in r) (places_in r))) Shape (Ok tt))
 
 unfoldable pub read_check : List ℕ → List ℕ → Outcome
 read_check r q = and_then (layout_check r) (places_check r q)

@@ -19,7 +19,6 @@ use native.Mathlib.Omega.{arith}
 use lib.ListN.{length, take, drop, replicate}
 use borrow.Author.Rules.{rules}
 use borrow.Author.Tests.{not-true, not-false, lt-ltb, le-ltb}
-use borrow.Rule.Slice.PartMut.{post_of}
 use mir.Syntax.{w64}
 use mir.Val.{Fits}
 use Rattle.catalan.specs.Count.{C, largest_size}
@@ -60,10 +59,10 @@ module _ (n k end : ℕ) where
 module _ (n k end : ℕ) (within : end ≤ C n) where
   -- q is the pattern that was written over the first places
   written : k < end → (p q : List ℕ) → q ≡ local_pattern n k → drop (2 * n) p ≡ replicate (state_places - 2 * n) 0
-      → q ++ post_of 0 (2 * n - 0) p ≡ places_at n k end
-  written on p q e z = rw (sub-zero, places_at_next n k end on) (padded_written n k (omega arith) p q e z)
+      → q ++ drop (2 * n) p ≡ places_at n k end
+  written on p q e z = rw (places_at_next n k end on) (padded_written n k (omega arith) p q e z)
 
-  pub placed_first : k < end → (q : List ℕ) → q ≡ local_pattern n k → q ++ post_of 0 (2 * n - 0) no_places ≡ places_at n k end
+  pub placed_first : k < end → (q : List ℕ) → q ≡ local_pattern n k → q ++ drop (2 * n) no_places ≡ places_at n k end
   placed_first on q e = written on no_places q e (zeros_dropped (2 * n) state_places)
 
 -- places before the end
@@ -71,24 +70,24 @@ module _ (n k end : ℕ) (within : end ≤ C n) (on : k < end) (p : List ℕ) (e
   held : p ≡ padded (local_pattern n k)
   held = e ∙ places_at_next n k end on
 
-  first : take (2 * n - 0) p ≡ local_pattern n k
-  first = rw (sub-zero, held) (take_padded n k (omega arith))
+  first : take (2 * n) p ≡ local_pattern n k
+  first = rw held (take_padded n k (omega arith))
 
-  feasible : Feasible n (take (2 * n - 0) p)
+  feasible : Feasible n (take (2 * n) p)
   feasible = rw first ((local_lawful n).shape_formed k (omega arith))
 
-  numbered : local_number (take (2 * n - 0) p) ≡ k
+  numbered : local_number (take (2 * n) p) ≡ k
   numbered = rw first ((local_lawful n).number_shape k (omega arith))
 
 module _ (n k end : ℕ) (within : end ≤ C n) (on : k + 1 ≤ end) (p : List ℕ) (e : p ≡ places_at n k end) where
-  pub before_feasible : Feasible n (take (2 * n - 0) p)
+  pub before_feasible : Feasible n (take (2 * n) p)
   before_feasible = feasible n k end within (omega arith) p e
 
-  pub placed_next : (k + 1 ≡ end → ⊥) → (q : List ℕ) → q ≡ next_pattern n (take (2 * n - 0) p) → q ++ post_of 0 (2 * n - 0) p ≡ places_at n (k + 1) end
+  pub placed_next : (k + 1 ≡ end → ⊥) → (q : List ℕ) → q ≡ next_pattern n (take (2 * n) p) → q ++ drop (2 * n) p ≡ places_at n (k + 1) end
   placed_next other q g =
       let below : k < end = omega arith in
       written n (k + 1) end within (omega arith) p q
-      (g ∙ next_chained n k (take (2 * n - 0) p) (first n k end within below p e) (omega arith))
+      (g ∙ next_chained n k (take (2 * n) p) (first n k end within below p e) (omega arith))
       (rw (held n k end within below p e) (drop_padded n k (omega arith)))
 
 -- ---- a start
@@ -103,8 +102,12 @@ begun_made n k end p e = rw e
 -- all that a step answers, by the definitions
 abbrev Answers : Run → Stepped → Type 0
 Answers s r =
-    (progress_reply r.progress ≡ step_reply s)
-    × ((r.run ≡ step_run s) × ((r.places ≡ step_places s) × (r.change ≡ step_change s)))
+    record {
+      progress_value : progress_reply r.progress ≡ step_reply s;
+      run_value : r.run ≡ step_run s;
+      places_value : r.places ≡ step_places s;
+      change_value : r.change ≡ step_change s;
+    }
 
 -- nothing is handed out
 abbrev Stays : Run → Progress → Stepped → Type 0
@@ -122,7 +125,13 @@ kept (Refused f) new old h = refl
 
 pub stays_answers : (s : Run) (r : Stepped) (o : Progress) → Unhanded o → Stays s o r → progress s ≡ o → Answers s r
 unfolding step_reply step_run step_places step_change
-stays_answers s r o h (q, t, p, c) e = rw e (ap progress_reply q, (t ∙ kept o _ _ h, (p ∙ kept o _ _ h, c ∙ kept o _ _ h)))
+stays_answers s r o h (q, t, p, c) e =
+    rw e (record {
+      progress_value = ap progress_reply q;
+      run_value = t ∙ kept o _ _ h;
+      places_value = p ∙ kept o _ _ h;
+      change_value = c ∙ kept o _ _ h;
+    })
 
 module _ (s : Run) (b : Bool) (e : b ≡ belong s.size s.next s.end s.places) where
   pub state_refused : not b ≡ true → progress s ≡ Refused State
@@ -165,10 +174,10 @@ module _ (s : Run) (b : Bool) (e : b ≡ belong s.size s.next s.end s.places) wh
       pub standing_fits : Fits w64 (s.next + 1)
       standing_fits = record { fits = omega (arith, before, standing_within, C_fits s.size (omega (arith, standing_small))) }
 
-      pub standing_feasible : Feasible s.size (take (2 * s.size - 0) s.places)
+      pub standing_feasible : Feasible s.size (take (2 * s.size) s.places)
       standing_feasible = feasible s.size s.next s.end standing_within before s.places standing_places
 
-      module _ (c : ℕ) (g : c ≡ change s.size (local_number (take (2 * s.size - 0) s.places))) where
+      module _ (c : ℕ) (g : c ≡ change s.size (local_number (take (2 * s.size) s.places))) where
         changed : c ≡ change s.size s.next
         changed = g ∙ ap (change s.size) (numbered s.size s.next s.end standing_within before s.places standing_places)
 
@@ -194,7 +203,7 @@ module _ (s : Run) (b : Bool) (e : b ≡ belong s.size s.next s.end s.places) wh
         unfolding step_reply step_run step_places step_change moved_on
         handed_answers fits q t =
             let pattern = held s.size s.next s.end standing_within before s.places standing_places in
-            rw (handed fits) (refl, (rw (changed, t), (pattern, changed)))
+            rw (handed fits) (record { progress_value = refl; run_value = rw (changed, t); places_value = pattern; change_value = changed })
 
 pub ruleset starts = (tests, answered, placed_none, placed_last, placed_first, before_feasible, placed_next, begun_made)
 

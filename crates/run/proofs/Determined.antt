@@ -7,7 +7,7 @@ use mathlib.Core.Path.{◌≡◌, ap}
 use mathlib.Core.Logic.{◌↔◌}
 use mathlib.Core.List.{List}
 use Prim.Native.Nat.{ℕ}
-use Rattle.shape.specs.declared.Outcome.{Outcome}
+use Rattle.shape.specs.Reply.{Outcome}
 use Rattle.shape.specs.Determined.{Determined, determined}
 use Rattle.shape.proofs.Replies.{outcome_exact}
 use Rattle.run.specs.declared.Run.{Run}

@@ -16,7 +16,7 @@ use Rattle.catalan.specs.Count.{C, binom, binom_before, ways}
 use Rattle.shape.specs.Number.{local_places, local_pattern, first_difference, change}
 use Rattle.shape.specs.Numbering.{numbers_from}
 use Rattle.shape.specs.declared.Refusal.TheVariants.{Size, Range, State}
-use Rattle.shape.specs.declared.Outcome.TheVariants.{Refused}
+use Rattle.std.specs.Prelude.{Err}
 use Rattle.run.specs.declared.Run.{Run}
 use Rattle.run.specs.declared.Progress.TheVariants.{Handed, Done, Refused as NotHanded}
 use Rattle.run.specs.State.{no_places, padded, places_at, same, belong}
@@ -41,11 +41,11 @@ unfolding C ways binom binom_before local_places local_pattern first_difference 
     start_check begun no_run start_run moved_on step_run after run_figure stretches added_figures
 added_3 = refl
 
-refused_3_5_6 : start_check 3 5 6 ≡ Refused Range
+refused_3_5_6 : start_check 3 5 6 ≡ Err Range
 unfolding C start_check
 refused_3_5_6 = refl
 
-refused_36_5_4 : start_check 36 5 4 ≡ Refused Size
+refused_36_5_4 : start_check 36 5 4 ≡ Err Size
 unfolding C start_check
 refused_36_5_4 = refl
 

@@ -20,7 +20,7 @@ use Rattle.shape.specs.Number.{local_pattern, change}
 use Rattle.shape.specs.Check.{unless, sized, Sized}
 use Rattle.shape.specs.declared.Refusal.{Refusal}
 use Rattle.shape.specs.declared.Refusal.TheVariants.{Size, Range, State}
-use Rattle.shape.specs.declared.Outcome.TheVariants.{Done, Refused}
+use Rattle.std.specs.Prelude.{Ok, Err}
 use Rattle.shape.proofs.Lists.{zeros_at}
 use Rattle.shape.proofs.Tests.{less_means, and_means}
 use Rattle.shape.proofs.Checks.{sized_means, refuses_unless, passed, failed, passed_last}
@@ -39,21 +39,21 @@ module _ (n first end : ℕ) where
   abbrev ranged : Bool
   ranged = in_range n first end
 
-  pub start_size : (start_check n first end ≡ Refused Size) ↔ (Sized n → ⊥)
+  pub start_size : (start_check n first end ≡ Err Size) ↔ (Sized n → ⊥)
   unfolding start_check
   start_size =
-      failed (sized n) Size (unless ranged Range Done) (sized_means n) (refuses_unless (λ i. i ≡ 1 → ⊥) ranged Range Done (λ e. omega arith) tt)
+      failed (sized n) Size (unless ranged Range (Ok tt)) (sized_means n) (refuses_unless (λ i. i ≡ 1 → ⊥) ranged Range (Ok tt) (λ e. omega arith) tt)
 
-  pub start_range : (start_check n first end ≡ Refused Range) ↔ (Sized n × ((first ≤ end) × (end ≤ C n) → ⊥))
+  pub start_range : (start_check n first end ≡ Err Range) ↔ (Sized n × ((first ≤ end) × (end ≤ C n) → ⊥))
   unfolding start_check
   start_range =
-      passed (sized n) Size (unless ranged Range Done) (Refused Range) (sized_means n) (λ e. omega arith)
-      (λ s. failed ranged Range Done (range_means n first end) tt)
+      passed (sized n) Size (unless ranged Range (Ok tt)) (Err Range) (sized_means n) (λ e. omega arith)
+      (λ s. failed ranged Range (Ok tt) (range_means n first end) tt)
 
-  pub start_done : (start_check n first end ≡ Done) ↔ (Sized n × (first ≤ end) × (end ≤ C n))
+  pub start_done : (start_check n first end ≡ Ok tt) ↔ (Sized n × (first ≤ end) × (end ≤ C n))
   unfolding start_check
   start_done =
-      Iff.trans (passed (sized n) Size (unless ranged Range Done) Done (sized_means n) tt (λ s. passed_last ranged Range (range_means n first end))) (
+      Iff.trans (passed (sized n) Size (unless ranged Range (Ok tt)) (Ok tt) (sized_means n) tt (λ s. passed_last ranged Range (range_means n first end))) (
         λ (s, (l, m)). (s, l, m),
         λ (s, l, m). (s, (l, m)),
       )

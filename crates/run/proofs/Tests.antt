@@ -4,14 +4,15 @@
 --     range_doubled, range_room, range_below                             and what follows: 2n places fit, and the first number is one of the size
 --     Summed, summed_none, summed_next, summed_all       places from one on, added up; the sum is 0 exactly where all of them are
 --     place_fits_lem, sum_fits             and fits its width
---     number_other, number_same            places are the pattern with a number exactly where they are a pattern and have it
+--     number_other, number_same, number_compared      places are the pattern with a number exactly where they are a pattern and have it
+--     range_done                           no refusal was found
 --     belong_range, belong_end, belong_behind, belong_found              its tests, in their order
 --     tests                                the laws that the code meets, for `search`
 -- Assumes nothing.
 use mathlib.Core.Path.{◌≡◌, refl, sym, ap, ◌∙◌}
 use mathlib.Core.Logic.Iff
 use mathlib.Core.Logic.{◌↔◌}
-use mathlib.Core.Bool.{Bool, true, false, cond, not}
+use mathlib.Core.Bool.{Bool, true, false, cond}
 use mathlib.Core.List.{List}
 use Prim.Native.Nat.{ℕ, ◌+◌, ◌-◌, ◌*◌, ◌≤◌, ◌<◌}
 use native.Mathlib.Nat.{sub-zero}
@@ -20,7 +21,6 @@ use native.Mathlib.Omega.{arith}
 use lib.Dec.{eqb}
 use lib.ListN.{length, get_or, take, drop, replicate, get_or-eq_default}
 use borrow.Author.Rules.{rules}
-use borrow.Author.Tests.{not-true, not-false}
 use mir.Syntax.{w8, w64}
 use mir.Val.{Fits}
 use Rattle.catalan.specs.Count.{C, largest_size}
@@ -29,15 +29,13 @@ use Rattle.catalan.proofs.Tables.{table_within}
 use Rattle.shape.specs.Form.{Feasible, patterns}
 use Rattle.shape.specs.Number.{local_number, local_pattern}
 use Rattle.shape.specs.Numbering.{local}
-use Rattle.shape.specs.Reply.{outcome_reply, numbered_reply}
+use Rattle.shape.specs.Reply.{outcome_reply, numbered_reply, Outcome, Numbered}
 use Rattle.shape.specs.Check.{sized, Sized, checked}
 use Rattle.shape.specs.Calls.{number_reply}
 use Rattle.shape.specs.declared.Refusal.{Refusal}
 use Rattle.shape.specs.declared.Refusal.TheVariants.{Size, Range}
-use Rattle.shape.specs.declared.Outcome.{Outcome}
-use Rattle.shape.specs.declared.Outcome.TheVariants.{Done, Refused}
-use Rattle.shape.specs.declared.Numbered.{Numbered}
-use Rattle.shape.specs.declared.Numbered.TheVariants.{Value, Refused as NotNumbered}
+use Rattle.std.specs.Prelude.{Ok, Err}
+use Rattle.std.specs.Result.{is_err, result_eq}
 use Rattle.shape.proofs.Tests.{equal_means, patterns_tested}
 use Rattle.shape.proofs.Replies.{refusal_least, told_value, told_refused}
 use Rattle.shape.proofs.LocalNumbers.{local_lawful}
@@ -58,15 +56,15 @@ alike false false m = refl
 
 -- ---- the numbers of a run
 
-refused_other : (f : Refusal) → Refused f ≡ Done → ⊥
+refused_other : (f : Refusal) → ◌≡◌ {A = Outcome} (Err f) (Ok tt) → ⊥
 refused_other f e = omega (arith, ap (λ (o : Outcome). (outcome_reply o).refusal) e, refusal_least f)
 
 module _ (n first end : ℕ) where
-  pub range_none : n ≡ 0 → Refused Size ≡ start_check n first end
+  pub range_none : n ≡ 0 → Err Size ≡ start_check n first end
   unfolding start_check
   range_none none = rw (test_fails (sized_means n) (λ s. omega arith))
 
-  pub range_large : largest_size < n → Refused Size ≡ start_check n first end
+  pub range_large : largest_size < n → Err Size ≡ start_check n first end
   unfolding start_check
   range_large large = rw (test_fails (sized_means n) (λ s. omega arith))
 
@@ -74,11 +72,11 @@ module _ (n first end : ℕ) where
     fits : sized n ≡ true
     fits = (sized_means n).1 (omega arith, small)
 
-    outside : ((first ≤ end) × (end ≤ C n) → ⊥) → Refused Range ≡ start_check n first end
+    outside : ((first ≤ end) × (end ≤ C n) → ⊥) → Err Range ≡ start_check n first end
     unfolding start_check
     outside h = rw (fits, test_fails (range_means n first end) h)
 
-    pub range_turned : end < first → Refused Range ≡ start_check n first end
+    pub range_turned : end < first → Err Range ≡ start_check n first end
     range_turned turned = outside (λ r. omega arith)
 
     -- v is what the table of the Catalan numbers says of the size
@@ -86,10 +84,10 @@ module _ (n first end : ℕ) where
       limit : v ≡ C n
       limit = t ∙ table_within n (omega arith)
 
-      pub range_past : v < end → Refused Range ≡ start_check n first end
+      pub range_past : v < end → Err Range ≡ start_check n first end
       range_past past = outside (λ r. omega (arith, limit))
 
-      pub range_fits : first ≤ end → end ≤ v → Done ≡ start_check n first end
+      pub range_fits : first ≤ end → end ≤ v → Ok tt ≡ start_check n first end
       unfolding start_check
       range_fits ordered within = rw (fits, (range_means n first end).1 (ordered, omega (arith, limit)))
 
@@ -98,9 +96,9 @@ module _ (n first end : ℕ) where
     pub range_told : (o : Outcome) → r ≡ o → start_check n first end ≡ o
     range_told o h = sym e ∙ h
 
-    module _ (h : r ≡ Done) where
+    module _ (h : r ≡ Ok tt) where
       told : Sized n × (first ≤ end) × (end ≤ C n)
-      told = (start_done n first end).0 (range_told Done h)
+      told = (start_done n first end).0 (range_told (Ok tt) h)
 
       pub range_some : 1 ≤ n
       range_some = told.0.0
@@ -174,14 +172,14 @@ summed_all p i sum j m off =
 
 -- r is what the code was told of the number of the places
 module _ (n k : ℕ) (s : Sized n) (below : k < C n) (p : List ℕ) (r : Numbered) (e : numbered_reply r ≡ number_reply (local n) p) where
-  pub number_other : (f : Refusal) → r ≡ NotNumbered f → false ≡ same p (local_pattern n k)
+  pub number_other : (f : Refusal) → r ≡ Err f → false ≡ same p (local_pattern n k)
   unfolding number_reply
   number_other f h =
       let refused = told_refused (checked patterns n p) (local_number p) f (ap numbered_reply (sym h) ∙ e) in
       let formed : p ≡ local_pattern n k → Feasible n p = λ g. rw g ((local_lawful n).shape_formed k below) in
       sym (same_other p (local_pattern n k) (λ g. refused_other f (sym refused ∙ (checked_done patterns patterns_tested n p).1 (s, formed g))))
 
-  pub number_same : (v : ℕ) → r ≡ Value v → eqb v k ≡ same p (local_pattern n k)
+  pub number_same : (v : ℕ) → r ≡ Ok v → eqb v k ≡ same p (local_pattern n k)
   unfolding number_reply
   number_same v h =
       let (done, found) = told_value (checked patterns n p) (local_number p) v (ap numbered_reply (sym h) ∙ e) in
@@ -190,16 +188,28 @@ module _ (n k : ℕ) (s : Sized n) (below : k < C n) (p : List ℕ) (r : Numbere
         λ q. found ∙ ap local_number q ∙ (local_lawful n).number_shape k below,
       ) (Iff.symm (same_means p (local_pattern n k)))))
 
+  -- b is whether it was found to be the number k
+  pub number_compared : (equal : Refusal → Refusal → Bool) (b : Bool) → b ≡ result_eq eqb equal r (Ok k) → b ≡ same p (local_pattern n k)
+  number_compared equal b h = h ∙ by_answer r refl
+    where
+      by_answer : (x : Numbered) → r ≡ x → result_eq eqb equal x (Ok k) ≡ same p (local_pattern n k)
+      by_answer (Ok v) q = number_same v q
+      by_answer (Err f) q = number_other f q
+
 -- ---- the parts of a state
+
+pub range_done : (o : Outcome) → false ≡ is_err o → o ≡ Ok tt
+range_done (Ok _) h = refl
+range_done (Err f) h = absurd (true_not_false (sym h))
 
 module _ (n k end : ℕ) (p : List ℕ) where
   module _ (o : Outcome) (e : o ≡ start_check n k end) where
-    pub belong_range : (f : Refusal) → o ≡ Refused f → false ≡ belong n k end p
+    pub belong_range : (f : Refusal) → o ≡ Err f → false ≡ belong n k end p
     belong_range f h = sym (test_fails (belong_means n k end p) (λ (s, l, m, _). refused_other f (sym h ∙ e ∙ (start_done n k end).1 (s, l, m))))
 
-    module _ (h : o ≡ Done) (long : length p ≡ state_places) where
+    module _ (h : o ≡ Ok tt) (long : length p ≡ state_places) where
       ranges : Sized n × (k ≤ end) × (end ≤ C n)
-      ranges = (start_done n k end).0 (range_told n k end o e Done h)
+      ranges = (start_done n k end).0 (range_told n k end o e (Ok tt) h)
 
       -- a test that finds exactly whether the places are those of the state
       tested : (t : Bool) → (t ≡ true) ↔ (p ≡ places_at n k end) → t ≡ belong n k end p
@@ -221,16 +231,14 @@ module _ (n k end : ℕ) (p : List ℕ) where
         parts : (p ≡ places_at n k end) ↔ ((take (2 * n) p ≡ local_pattern n k) × (drop (2 * n) p ≡ replicate (state_places - 2 * n) 0))
         parts = rw (places_at_next n k end (omega (arith, ranges.1))) (padded_means n k (range_below n k end o e h other) p)
 
-        pub belong_behind : not v ≡ true → false ≡ belong n k end p
-        belong_behind h =
-            sym
-            (test_fails (belong_means n k end p) (λ (_, _, _, q). true_not_false (sym (zeros.1 (parts.0 q).1) ∙ not-true v h)))
+        pub belong_behind : v ≡ false → v ≡ belong n k end p
+        belong_behind h = h ∙ sym (test_fails (belong_means n k end p) (λ (_, _, _, q). true_not_false (sym (zeros.1 (parts.0 q).1) ∙ h)))
 
         -- b is whether the places before were found to be the pattern
-        pub belong_found : not v ≡ false → (b : Bool) → b ≡ same (take (2 * n - 0) p) (local_pattern n k) → b ≡ belong n k end p
+        pub belong_found : v ≡ true → (b : Bool) → b ≡ same (take (2 * n) p) (local_pattern n k) → b ≡ belong n k end p
         belong_found h b t =
-            tested b (rw (t, sub-zero) (Iff.trans (same_means (take (2 * n) p) (local_pattern n k)) (
-              λ q. parts.1 (q, zeros.0 (not-false v h)),
+            tested b (rw t (Iff.trans (same_means (take (2 * n) p) (local_pattern n k)) (
+              λ q. parts.1 (q, zeros.0 h),
               λ q. (parts.0 q).0,
             )))
 
@@ -256,3 +264,5 @@ pub ruleset tests = (
   belong_behind,
   belong_found,
 )
+
+pub ruleset summed = (summed_none, summed_next, summed_all, place_fits_lem, sum_fits)

@@ -6,13 +6,11 @@
 --     moved_on                             the state after a shape was handed out
 --     step_reply, step_run, step_places, step_change  the step: its reply, the state that it leaves, the pattern and its change
 -- Assumes nothing.
-use Rattle.std.specs.Prelude.{cond, List, ℕ, ◌+◌, ◌^◌, ltb}
+use Rattle.std.specs.Prelude.{cond, List, ℕ, ◌+◌, ◌^◌, ltb, Ok}
 use Rattle.shape.specs.Number.{local_pattern, change}
-use Rattle.shape.specs.Reply.{Reply, refused, outcome_reply}
+use Rattle.shape.specs.Reply.{Reply, refused, outcome_reply, Outcome}
 use Rattle.shape.specs.Check.{unless, sized, unless_refused}
 use Rattle.shape.specs.declared.Refusal.TheVariants.{Size, Range, State}
-use Rattle.shape.specs.declared.Outcome.{Outcome}
-use Rattle.shape.specs.declared.Outcome.TheVariants.{Done}
 use Rattle.run.specs.declared.Run.{Run}
 use Rattle.run.specs.declared.Progress.{Progress}
 use Rattle.run.specs.declared.Progress.TheVariants.{Handed, Done as AtEnd, Refused}
@@ -25,7 +23,7 @@ progress_reply (Refused f) = refused f
 
 -- 01, Refusal numbers, 1 and 8.
 unfoldable pub start_check : ℕ → ℕ → ℕ → Outcome
-start_check n first end = unless (sized n) Size (unless (in_range n first end) Range Done)
+start_check n first end = unless (sized n) Size (unless (in_range n first end) Range (Ok tt))
 
 unfoldable pub start_reply : ℕ → ℕ → ℕ → Reply
 start_reply n first end = outcome_reply (start_check n first end)

@@ -9,7 +9,7 @@ ghost use Rattle.shape.specs.Reply.{outcome_reply};
 ghost use Rattle.run.specs.State.{no_places};
 ghost use Rattle.run.specs.Calls.{progress_reply, start_reply, start_run, step_reply, step_run, step_places, step_change};
 
-use shape::{Outcome, Refusal};
+use shape::Refusal;
 
 // Laid out as C lays it out, since a state is handed to programs in C as it is.
 #[repr(C)]
@@ -26,10 +26,11 @@ pub struct Run {
     pub places: [u8; 70],
 }
 
-// What a start answers: the run, all 0 where it was refused.
+// What a start answers: the run, all 0 where it was refused. No `Result` of a run, since the clause `run_value` says of a refused start too what
+// state it gives.
 #[derive(Clone, Copy)]
 pub struct Started {
-    pub outcome: Outcome,
+    pub outcome: Result<(), Refusal>,
     pub run: Run,
 }
 
@@ -41,7 +42,8 @@ pub enum Progress {
     Refused(Refusal),
 }
 
-// What a step answers: the run moved on, and the pattern that it handed out with its change, all 0 where it handed out none.
+// What a step answers: the run moved on, and the pattern that it handed out with its change, all 0 where it handed out none. The clauses speak of
+// each of these at the end and at a refusal too, so none is held by a case of `Progress`.
 #[derive(Clone, Copy)]
 pub struct Stepped {
     pub progress: Progress,
@@ -51,59 +53,60 @@ pub struct Stepped {
 }
 
 impl Run {
+    // The state of no run, which a refused start gives.
+    pub const NONE: Run = Run {
+        size: 0,
+        next: 0,
+        end: 0,
+        figure: 0,
+        places: [0; 70],
+    };
+
     // A run through the shapes numbered from `first` on, up to the one before `end`.
+    #[tactic(auto, using(crate::proofs::Answers::starts), unfolding(crate::specs::Calls::start_reply, crate::specs::Calls::no_run, crate::specs::Calls::start_run))]
     pub fn start(size: usize, first: u64, end: u64) -> Started
         ensures outcome_value { outcome_reply result.outcome ≡ start_reply size first end }
         ensures run_value { result.run ≡ start_run size first end }
     {
-        match state::range(size, first, end) {
-            Outcome::Refused(refusal) => Started {
-                outcome: Outcome::Refused(refusal),
-                run: Run {
-                    size: 0,
-                    next: 0,
-                    end: 0,
-                    figure: 0,
-                    places: [0; 70],
-                },
+        let outcome = state::range(size, first, end);
+        if outcome.is_err() {
+            return Started {
+                outcome,
+                run: Run::NONE,
+            };
+        }
+        Started {
+            outcome,
+            run: Run {
+                size,
+                next: first,
+                end,
+                figure: 0,
+                places: state::places_at(size, first, end),
             },
-            Outcome::Done => {
-                let places = state::places_at(size, first, end);
-                Started {
-                    outcome: Outcome::Done,
-                    run: Run {
-                        size,
-                        next: first,
-                        end,
-                        figure: 0,
-                        places,
-                    },
-                }
-            }
         }
     }
 
     // The shape that comes next, with its change, and the run moved on.
+    #[tactic(auto, using(crate::proofs::Answers::steps))]
     pub fn step(mut self) -> Stepped
         ensures progress_value { progress_reply result.progress ≡ step_reply self }
         ensures run_value { result.run ≡ step_run self }
         ensures places_value { result.places ≡ step_places self }
         ensures change_value { result.change ≡ step_change self }
     {
-        let size = self.size;
-        let places = self.places;
-        if !state::belongs(size, self.next, self.end, &places) {
+        if !self.belongs() {
             return self.stays(Progress::Refused(Refusal::State));
         }
         if self.next == self.end {
             return self.stays(Progress::Done);
         }
-        let change = local::change(size, &places[0..2 * size]);
-        // 64 bits hold no figure above this number
-        if self.figure > 18446744073709551615 - change {
+        let places = self.places;
+        let change = local::change(self.size, &places[..2 * self.size]);
+        if self.figure > u64::MAX - change {
             return self.stays(Progress::Refused(Refusal::State));
         }
-        let after = state::places_after(size, self.next, self.end, places);
+        let after = self.places_after();
         self.places = after;
         self.next += 1;
         self.figure += change;
