@@ -13,7 +13,7 @@ use lib.Dec.{leb}
 use borrow.Author.Tests.{eq-eqb}
 use Rattle.shape.specs.Check.{unless}
 use Rattle.shape.specs.declared.Refusal.TheVariants.{Length, State}
-use Rattle.shape.specs.declared.Outcome.TheVariants.{Done}
+use Rattle.std.specs.Prelude.{Ok}
 use Rattle.shape.proofs.Tests.{le_means, equal_means, and_means}
 use Rattle.shape.proofs.Checks.{passed, passed_last}
 use Rattle.run.specs.declared.Progress.{Progress}
@@ -25,10 +25,10 @@ use Rattle.text.specs.Text.{line_room}
 use Rattle.lines.specs.declared.Sheet.{Sheet}
 use Rattle.lines.specs.Calls.{walks, began, over, keeps, fill_check}
 
-pub fill_passed : (s : Sheet) (room : ℕ) → (fill_check s room ≡ Done) ↔ ((line_room ≤ room) × (keeps s ≡ true))
+pub fill_passed : (s : Sheet) (room : ℕ) → (fill_check s room ≡ Ok tt) ↔ ((line_room ≤ room) × (keeps s ≡ true))
 unfolding fill_check
 fill_passed s room =
-    passed (leb line_room room) Length (unless (keeps s) State Done) Done (le_means line_room room) tt
+    passed (leb line_room room) Length (unless (keeps s) State (Ok tt)) (Ok tt) (le_means line_room room) tt
     (λ h. passed_last (keeps s) State Iff.rfl)
 
 walks_says : (o : Progress) → walks o ≡ true → (o ≡ Handed) ⊎ (o ≡ AtEnd)

@@ -9,15 +9,13 @@ use mathlib.Core.Path.{◌≡◌, sym, ap, ◌∙◌}
 use mathlib.Core.Bool.{cond}
 use mathlib.Core.List.{List, ◌++◌}
 use Prim.Native.Nat.{ℕ, ◌+◌, ◌-◌, ◌*◌, ◌≤◌, ◌<◌}
-use native.Mathlib.Nat.{sub-zero}
 use native.Mathlib.Decide.{dec_lt}
 use native.Mathlib.Omega.{arith}
 use lib.Dec.{eqb}
-use lib.ListN.{length, take, replicate, length-append, length-replicate}
+use lib.ListN.{length, take, drop, replicate, length-append, length-replicate}
 use lib.Seq.{length-take-le, take_at}
 use borrow.Author.Rules.{rules}
 use borrow.Author.Tests.{eq-eqb, ne_eqb}
-use borrow.Rule.Slice.PartMut.{post_of}
 use mir.Syntax.{w64}
 use mir.Val.{Fits}
 use Rattle.catalan.specs.Count.{C, largest_size}
@@ -40,8 +38,8 @@ use Rattle.lines.proofs.Bounds.{shape_formed, shape_count}
 use Rattle.lines.proofs.Pieces.{stands, fitting_after, fitting_within}
 
 -- d was written over the first m numbers of a list, and is there
-front_held : (m : ℕ) (d rest : List ℕ) → length d ≡ m → (m ≤ length (d ++ rest)) × (take (m - 0) (d ++ rest) ≡ d)
-front_held m d rest h = (omega (arith, length-append d rest), take_at d rest (m - 0) (h ∙ sym (sub-zero m)))
+front_held : (m : ℕ) (d rest : List ℕ) → length d ≡ m → (m ≤ length (d ++ rest)) × (take m (d ++ rest) ≡ d)
+front_held m d rest h = (omega (arith, length-append d rest), take_at d rest m h)
 
 module _ (s : Run) (e : progress s ≡ Handed) where
   sound : Sound s
@@ -65,14 +63,14 @@ module _ (s : Run) (e : progress s ≡ Handed) where
   pub run_within : s.end ≤ C s.size
   run_within = sound.within
 
-  pub run_pattern : take (2 * s.size - 0) s.places ≡ local_pattern s.size s.next
-  run_pattern = rw sub-zero (sound.pattern run_on)
+  pub run_pattern : take (2 * s.size) s.places ≡ local_pattern s.size s.next
+  run_pattern = sound.pattern run_on
 
-  pub run_formed : Feasible s.size (take (2 * s.size - 0) s.places)
+  pub run_formed : Feasible s.size (take (2 * s.size) s.places)
   run_formed = shape_formed s.size s.next run_small (omega (arith, run_on, run_within)) _ run_pattern
 
-  pub run_entries : length (take {A = ℕ} (s.size - 0) (replicate 35 0)) ≡ s.size
-  run_entries = length-take-le (s.size - 0) (replicate 35 0) (omega (arith, run_small, length-replicate {A = ℕ} 35 0)) ∙ sub-zero s.size
+  pub run_entries : length (take {A = ℕ} s.size (replicate 35 0)) ≡ s.size
+  run_entries = length-take-le s.size (replicate 35 0) (omega (arith, run_small, length-replicate {A = ℕ} 35 0))
 
   pub run_odd : Fits w64 (2 * s.size + 1)
   run_odd = record { fits = omega (arith, run_small) }
@@ -80,32 +78,38 @@ module _ (s : Run) (e : progress s ≡ Handed) where
   pub run_spare : 2 * s.size + 1 ≤ 71
   run_spare = omega (arith, run_small)
 
-  pub run_depths : length (take {A = ℕ} (2 * s.size + 1 - 0) (replicate 71 0)) ≡ 2 * s.size + 1
+  pub run_depths : length (take {A = ℕ} (2 * s.size + 1) (replicate 71 0)) ≡ 2 * s.size + 1
   run_depths =
-      length-take-le (2 * s.size + 1 - 0) (replicate 71 0) (omega (arith, run_small, length-replicate {A = ℕ} 71 0)) ∙ sub-zero (2 * s.size + 1)
+      length-take-le (2 * s.size + 1) (replicate 71 0) (omega (arith, run_small, length-replicate {A = ℕ} 71 0))
 
   -- d are the depths that were written over the first numbers
-  module _ (d : List ℕ) (deep : d ≡ depths_of (take (2 * s.size - 0) s.places)) (rest : List ℕ) where
+  module _ (d : List ℕ) (deep : d ≡ depths_of (take (2 * s.size) s.places)) (rest : List ℕ) where
     as_many : length d ≡ 2 * s.size + 1
     as_many =
-        let long = length-take-le (2 * s.size - 0) s.places (omega (arith, run_room)) in
-        ap length deep ∙ omega (arith, length_depths (take (2 * s.size - 0) s.places), long)
+        let long = length-take-le (2 * s.size) s.places (omega (arith, run_room)) in
+        ap length deep ∙ omega (arith, length_depths (take (2 * s.size) s.places), long)
 
     pub run_covered : 2 * s.size + 1 ≤ length (d ++ rest)
     run_covered = (front_held (2 * s.size + 1) d rest as_many).0
 
-    pub run_deep : take (2 * s.size + 1 - 0) (d ++ rest) ≡ depths_of (take (2 * s.size - 0) s.places)
+    pub run_measured : 2 * s.size + 1 ≡ length (take (2 * s.size + 1) (d ++ rest))
+    run_measured = sym (as_many) ∙ ap length (sym (front_held (2 * s.size + 1) d rest as_many).1)
+
+    pub run_deep : take (2 * s.size + 1) (d ++ rest) ≡ depths_of (take (2 * s.size) s.places)
     run_deep = (front_held (2 * s.size + 1) d rest as_many).1 ∙ deep
 
   -- q is the permutation that was written over the first entries
-  module _ (q : List ℕ) (labels : q ≡ permutation (pattern_tree (take (2 * s.size - 0) s.places))) (rest : List ℕ) where
+  module _ (q : List ℕ) (labels : q ≡ permutation (pattern_tree (take (2 * s.size) s.places))) (rest : List ℕ) where
     count : length q ≡ s.size
     count = shape_count s.size s.next run_small (omega (arith, run_on, run_within)) _ run_pattern q labels
 
     pub run_held : s.size ≤ length (q ++ rest)
     run_held = (front_held s.size q rest count).0
 
-    pub run_labels : take (s.size - 0) (q ++ rest) ≡ permutation (pattern_tree (take (2 * s.size - 0) s.places))
+    pub run_counted : s.size ≡ length (take s.size (q ++ rest))
+    run_counted = sym count ∙ ap length (sym (front_held s.size q rest count).1)
+
+    pub run_labels : take s.size (q ++ rest) ≡ permutation (pattern_tree (take (2 * s.size) s.places))
     run_labels = (front_held s.size q rest count).1 ∙ labels
 
   module _ (room : ℕ) {k : ℕ} (next : k ≡ s.next + listed (standing s.size s.next s.end s.figure) room) where
@@ -123,16 +127,16 @@ module _ (s : Run) (e : progress s ≡ Handed) where
     -- q is the pattern that the walk left in the first places
     module _ (q : List ℕ) (left : k < s.end → q ≡ local_pattern s.size k) where
       abbrev kept : List ℕ
-      kept = q ++ post_of 0 (2 * s.size - 0) s.places
+      kept = q ++ drop (2 * s.size) s.places
 
       held : cond (eqb k s.end) no_places kept ≡ places_at s.size k s.end
       held =
           elim (dec_lt k s.end) [
             | yes on ↦
                 let places = sound_holds s sound ∙ places_at_next s.size s.next s.end run_on in
-                rw (ne_eqb k s.end (λ h. omega arith), sub-zero, places_at_next s.size k s.end on)
+                rw (ne_eqb k s.end (λ h. omega arith), places_at_next s.size k s.end on)
                 (padded_written s.size k (omega (arith, run_within)) s.places q (left on)
-                (ap (post_of 0 (2 * s.size)) places ∙ drop_padded s.size s.next (omega (arith, run_on, run_within))))
+                (ap (drop (2 * s.size)) places ∙ drop_padded s.size s.next (omega (arith, run_on, run_within))))
             | no past ↦
                 let last : k ≡ s.end = omega (arith, there, fitting_within (s.end - s.next) room s sound) in
                 rw (eq-eqb k s.end last) (sym (places_at_end s.size k s.end (omega arith)))

@@ -10,7 +10,7 @@ use mathlib.Core.List.{List}
 use Prim.Native.Nat.{ℕ}
 use lib.ListN.{length}
 use Rattle.shape.specs.Check.{numbered}
-use Rattle.shape.specs.declared.Numbered.{Numbered}
+use Rattle.shape.specs.Reply.{Numbered}
 use Rattle.shape.specs.Determined.{Determined, determined}
 use Rattle.shape.proofs.Replies.{numbered_exact}
 use Rattle.lines.specs.declared.Sheet.{Sheet}

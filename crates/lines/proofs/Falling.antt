@@ -9,8 +9,8 @@ use native.Mathlib.Decide.{dec_lt, ℕ_discrete}
 use native.Mathlib.Omega.{arith}
 use lib.ListN.{length}
 use borrow.Author.Tests.{eq-eqb, ne_eqb}
-use Rattle.shape.specs.declared.Outcome.{Outcome}
-use Rattle.shape.specs.declared.Outcome.TheVariants.{Done, Refused}
+use Rattle.shape.specs.Reply.{Outcome}
+use Rattle.std.specs.Prelude.{Ok, Err}
 use Rattle.run.specs.declared.Run.{Run}
 use Rattle.text.specs.Text.{line, run_line, shape_lines, end_line, no_line}
 use Rattle.lines.specs.declared.Sheet.{Sheet}
@@ -87,15 +87,15 @@ module _ (s : Sheet) (room : ℕ) where
 
   by_check : (o : Outcome) → fill_check s room ≡ o → 0 < (fill_reply s room).value → lines_left (fill_sheet s room) < lines_left s
   unfolding fill_reply fill_sheet
-  by_check Done e = rw e (falls s.ended refl ((fill_passed s room).0 e).1)
-  by_check (Refused f) e = rw e (λ some. absurd (omega arith))
+  by_check (Ok _) e = rw e (falls s.ended refl ((fill_passed s room).0 e).1)
+  by_check (Err f) e = rw e (λ some. absurd (omega arith))
 
   pub pieces_fall : 0 < (fill_reply s room).value → lines_left (fill_sheet s room) < lines_left s
   pieces_fall = by_check (fill_check s room) refl
 
 -- ---- pieces with no bytes
 
-module _ (s : Sheet) (room : ℕ) (passed : fill_check s room ≡ Done) (going : s.ended ≡ false) where
+module _ (s : Sheet) (room : ℕ) (passed : fill_check s room ≡ Ok tt) (going : s.ended ≡ false) where
   some_no : (s.refusal ≡ 0 → ⊥) → 0 < length (piece_text s room)
   unfolding piece_text no_line line
   some_no told = rw (going, ne_eqb s.refusal 0 told) (omega arith)

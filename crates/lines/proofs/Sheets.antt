@@ -18,9 +18,8 @@ use Rattle.catalan.specs.Count.{C}
 use Rattle.shape.specs.Every.{All}
 use Rattle.shape.specs.Number.{change}
 use Rattle.shape.specs.Check.{Sized}
-use Rattle.shape.specs.Reply.{refusal_number}
-use Rattle.shape.specs.declared.Outcome.{Outcome}
-use Rattle.shape.specs.declared.Outcome.TheVariants.{Done, Refused}
+use Rattle.shape.specs.Reply.{refusal_number, Outcome}
+use Rattle.std.specs.Prelude.{Ok, Err}
 use Rattle.shape.proofs.Replies.{refusal_least, refusal_most}
 use Rattle.run.specs.declared.Run.{Run}
 use Rattle.run.specs.declared.Progress.TheVariants.{Handed}
@@ -251,10 +250,10 @@ module _ (n first end : ℕ) (sized : Sized n) (low : first ≤ end) (high : end
 module _ (input : List ℕ) where
   by_check : (o : Outcome) → open_check input ≡ o → HandsOut (open_sheet input) (sheet_of input) (suc (suc (asked_end input - asked_first input)))
   unfolding open_sheet sheet_of
-  by_check Done e =
+  by_check (Ok _) e =
       let (_, (sized, low, high)) = (open_done input).0 e in
       rw e (sheet_hands (asked_size input) (asked_first input) (asked_end input) sized low high)
-  by_check (Refused f) e = λ rooms h enough. rw e (refusing_hands (refusal_number f) (refusal_least f) (refusal_most f) rooms h (omega arith))
+  by_check (Err f) e = λ rooms h enough. rw e (refusing_hands (refusal_number f) (refusal_least f) (refusal_most f) rooms h (omega arith))
 
   open_hands : HandsOut (open_sheet input) (sheet_of input) (suc (suc (asked_end input - asked_first input)))
   open_hands = by_check (open_check input) refl

@@ -15,7 +15,7 @@ use Rattle.shape.specs.Numbering.{numbers_from}
 use Rattle.shape.specs.Check.{Sized}
 use Rattle.shape.specs.Reply.{refusal_number}
 use Rattle.shape.specs.declared.Refusal.{Refusal}
-use Rattle.shape.specs.declared.Outcome.TheVariants.{Done, Refused}
+use Rattle.std.specs.Prelude.{Ok, Err}
 use Rattle.shape.proofs.Lists.{length-map}
 use Rattle.shape.proofs.Listing.{length_numbers}
 use Rattle.shape.proofs.LocalNumbers.{local_lawful}
@@ -66,7 +66,7 @@ module _ (input : List ℕ) where
   abbrev handed_out : List (List ℕ × ℕ)
   handed_out = handed (asked_end input - asked_first input) (start_run (asked_size input) (asked_first input) (asked_end input))
 
-  pub sheet_lines : open_check input ≡ Done → sheet_of input
+  pub sheet_lines : open_check input ≡ Ok tt → sheet_of input
       ≡ run_line (asked_size input) (asked_first input) (asked_end input)
       ++ (flat_map handed_line handed_out ++ end_line (length handed_out) (run_figure (asked_size input) (asked_first input) (asked_end input)))
   unfolding sheet_of
@@ -74,12 +74,12 @@ module _ (input : List ℕ) where
       let (_, (sized, low, high)) = (open_done input).0 e in
       rw e (run_shown (asked_size input) (asked_first input) (asked_end input) sized low high)
 
-  pub input_repeated : open_check input ≡ Done → run_line (asked_size input) (asked_first input) (asked_end input) ≡ run_word ++ (32 ∷ input)
+  pub input_repeated : open_check input ≡ Ok tt → run_line (asked_size input) (asked_first input) (asked_end input) ≡ run_word ++ (32 ∷ input)
   unfolding run_line line ask_line
   input_repeated e =
       let asks = (asks_exactly input _ _ _).1 (((open_done input).0 e).0, (refl, (refl, refl))) in
       ap {B = List ℕ} (λ l. run_word ++ (32 ∷ l)) (sym asks.text)
 
-  pub sheet_refused : (f : Refusal) → open_check input ≡ Refused f → sheet_of input ≡ no_line (refusal_number f)
+  pub sheet_refused : (f : Refusal) → open_check input ≡ Err f → sheet_of input ≡ no_line (refusal_number f)
   unfolding sheet_of
   sheet_refused f e = rw e

@@ -13,7 +13,7 @@ use borrow.Author.Rules.{rules}
 use borrow.Author.Tests.{not-true, not-false, eq-eqb, ne_eqb, le-leb, lt-leb}
 use Rattle.shape.specs.declared.Refusal.{Refusal}
 use Rattle.shape.specs.declared.Refusal.TheVariants.{Length, State}
-use Rattle.shape.specs.declared.Outcome.TheVariants.{Done, Refused}
+use Rattle.std.specs.Prelude.{Ok, Err}
 use Rattle.run.specs.declared.Run.{Run}
 use Rattle.run.specs.declared.Progress.{Progress}
 use Rattle.run.specs.declared.Progress.TheVariants.{Handed, Done as AtEnd, Refused as NotHanded}
@@ -75,16 +75,16 @@ module _ (s : Sheet) where
       kept_on j r e = rw (eq-eqb s.refusal 0 told, ← goes, not-false g h, ← begun, not-false b j) e
 
 module _ (s : Sheet) (room : ℕ) where
-  pub check_short : room < 256 → Refused Length ≡ fill_check s room
+  pub check_short : room < 256 → Err Length ≡ fill_check s room
   unfolding fill_check
   check_short h = rw (lt-leb 256 room h)
 
   module _ (long : 256 ≤ room) (b : Bool) (kept : b ≡ keeps s) where
-    pub check_broken : not b ≡ true → Refused State ≡ fill_check s room
+    pub check_broken : not b ≡ true → Err State ≡ fill_check s room
     unfolding fill_check
     check_broken h = rw (le-leb 256 room long, ← kept, not-true b h)
 
-    pub check_passed : not b ≡ false → Done ≡ fill_check s room
+    pub check_passed : not b ≡ false → Ok tt ≡ fill_check s room
     unfolding fill_check
     check_passed h = rw (le-leb 256 room long, ← kept, not-false b h)
 

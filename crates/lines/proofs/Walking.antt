@@ -4,14 +4,14 @@
 --     Put                       the lines of the shapes before k stand in the buffer, `at` bytes, and so many more are to come
 --     first_formed, first_width, holds_first      what is held at the start, from what `text::put_number` and `local::change` answer
 --     holds_..                  what a line asks of it
---     holds_next                what is held after a step, from what `walk::next` and `text::count_up` answer
+--     holds_more, holds_next    there is a step, and what is held after it, from what `walk::next` and `text::count_up` answer
 --     put_none                  no line at the start
 --     put_full, put_last, put_stopped     no more lines: there is no room, the run is over, or the figure would pass 64 bits
 --     put_room, put_next        one line more
 -- Assumes nothing.
 use mathlib.Core.Path.{◌≡◌, refl, sym, ap, ap₂, ◌∙◌, subst}
 use mathlib.Core.List.{List, [], ◌∷◌, ◌++◌, append_assoc}
-use Prim.Native.Nat.{ℕ, suc, ◌+◌, ◌-◌, ◌*◌, ◌≤◌, ◌<◌, ◌^◌}
+use Prim.Native.Nat.{ℕ, zero, suc, ◌+◌, ◌-◌, ◌*◌, ◌≤◌, ◌<◌, ◌^◌}
 use native.Mathlib.Nat.{sub-zero, zero-add}
 use native.Mathlib.Omega.{arith}
 use lib.Dec.{lit<}
@@ -19,19 +19,21 @@ use lib.ListN.{length, get_or, take, replicate, length-append}
 use lib.Seq.{length-take-le, take_at}
 use mir.Syntax.{w64}
 use mir.Val.{Fits}
+use Rattle.std.specs.Prelude.{Option, Some}
 use Rattle.catalan.specs.Count.{C, largest_size}
 use Rattle.catalan.proofs.Counting.{C_rises}
 use Rattle.shape.specs.Tree.{permutation}
 use Rattle.shape.specs.Form.{Feasible, pattern_tree}
 use Rattle.shape.specs.Number.{local_number, local_pattern, change, depth}
 use Rattle.shape.proofs.LocalNumbers.{local_lawful}
+use Rattle.shape.proofs.Changes.{change_least}
 use Rattle.shape.proofs.Patterns.{feasible_length}
 use Rattle.run.specs.declared.Progress.TheVariants.{Handed}
 use Rattle.run.specs.Calls.{progress, step_run}
 use Rattle.run.specs.Walk.{figure_of}
 use Rattle.run.proofs.States.{step_handed}
 use Rattle.run.proofs.Runs.{figure_none, figure_next, figure_join}
-use Rattle.local.specs.Places.{next_change, next_pattern}
+use Rattle.local.specs.Places.{next_change, next_pattern, nonzero}
 use Rattle.local.proofs.Chains.{next_chained, next_change_chained}
 use Rattle.walk.specs.Depths.{depths_of}
 use Rattle.walk.proofs.Climbs.{length_depths, depth_last}
@@ -137,8 +139,8 @@ module _ {n end : ℕ} {places entries depths digits : List ℕ} {width c k : �
   pub holds_entries : (i : ℕ) → get_or entries i 0 < 100
   holds_entries = shape_entries n k h.small below places h.pattern entries h.labels
 
-  pub holds_text : length (take (width - 0) digits) ≤ 20
-  holds_text = omega (arith, length-take-le (width - 0) digits (omega (arith, h.held, h.narrow)), h.narrow)
+  pub holds_text : length (take width digits) ≤ 20
+  holds_text = omega (arith, length-take-le width digits (omega (arith, h.held, h.narrow)), h.narrow)
 
   pub holds_small : c < 100
   holds_small = rw h.changes (shape_change n k h.small below places h.pattern h.some)
@@ -158,12 +160,23 @@ module _ {n end : ℕ} {places entries depths digits : List ℕ} {width c k : �
   pub holds_width : width < length digits
   holds_width = omega (arith, spare, h.held)
 
+  -- o is what the step answered
+  pub holds_more : (k + 1 ≡ end → ⊥) → (o : Option ℕ) → o ≡ nonzero (next_change n places) → o ≡ Some (change n (k + 1))
+  holds_more other o e =
+      e
+      ∙ ap nonzero (next_change_chained n k places h.pattern (omega (arith, h.on, h.high)))
+      ∙ some_change (change n (k + 1)) (change_least n (k + 1) h.some (omega (arith, h.on, h.high)))
+    where
+      some_change : (c : ℕ) → 1 ≤ c → nonzero c ≡ Some c
+      some_change zero l = absurd (omega arith)
+      some_change (suc c) l = refl
+
   pub holds_next : (k + 1 ≡ end → ⊥) → {places' entries' depths' digits' : List ℕ} {width' c' : ℕ}
-      → c' ≡ next_change n places → places' ≡ next_pattern n places → entries' ≡ permutation (pattern_tree (next_pattern n places))
+      → Some c' ≡ nonzero (next_change n places) → places' ≡ next_pattern n places → entries' ≡ permutation (pattern_tree (next_pattern n places))
       → depths' ≡ depths_of (next_pattern n places)
       → ((j : ℕ) → take width digits ≡ decimal j → take width' digits' ≡ decimal (j + 1))
       → length digits' ≡ length digits → width' ≤ width + 1 → Holds n end places' entries' depths' digits' width' c' (k + 1)
-  holds_next other changes pattern labels deep number held narrow =
+  holds_next other {c' = c'} changes pattern labels deep number held narrow =
       record {
         some = h.some;
         small = h.small;
@@ -175,7 +188,7 @@ module _ {n end : ℕ} {places entries depths digits : List ℕ} {width c k : �
         held = held ∙ h.held;
         narrow = omega (arith, spare);
         number = number k h.number;
-        changes = changes ∙ next_change_chained n k places h.pattern (omega (arith, h.on, h.high));
+        changes = let more = holds_more other (Some c') changes in cc;
       }
 
 -- ---- what is put
@@ -229,11 +242,11 @@ module _ {n first end before : ℕ} {out₀ out : List ℕ} {f k at : ℕ} (p : 
     module _ (low : f ≤ 18446744073709551615 - c) (fits : 256 ≤ length out - at) where
       -- the line that the code puts
       abbrev text : List ℕ
-      text = shape_text (take (width - 0) digits) places entries (get_or depths (2 * n) 0) c
+      text = shape_text (take width digits) places entries (get_or depths (2 * n) 0) c
 
       text_line : text ≡ shape_line n k
       unfolding shape_line
-      text_line = rw (sub-zero, h.number, h.labels, holds_depth h, h.changes, h.pattern)
+      text_line = rw (h.number, h.labels, holds_depth h, h.changes, h.pattern)
 
       short : length (shape_line n k) ≤ line_room
       short =
@@ -298,3 +311,23 @@ module _ {n first end before : ℕ} {out₀ out : List ℕ} {f k at : ℕ} (p : 
                   ap (λ (i : ℕ). fitting (end - (k + 1)) (length out₀ - i) (standing n (k + 1) end (f + c))) there,
                 );
           }
+
+pub ruleset walking = (
+  first_formed,
+  first_width,
+  holds_first,
+  holds_formed,
+  holds_change,
+  holds_fits,
+  holds_wide,
+  holds_places,
+  holds_some,
+  holds_few,
+  holds_entries,
+  holds_small,
+  holds_text,
+  put_none,
+  put_full,
+  put_room,
+  put_stopped,
+)

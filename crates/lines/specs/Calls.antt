@@ -10,12 +10,10 @@
 --     piece_text, piece_sheet     the next piece, and the sheet after it (sheet_with)
 --     fill_reply, fill_sheet, fill_end    what filling a buffer answers, and what it leaves in the buffer
 -- Assumes nothing.
-use Rattle.std.specs.Prelude.{Bool, true, false, cond, ◌&&◌, List, [], ℕ, zero, suc, ◌+◌, ◌-◌, leb, eqb, length}
-use Rattle.shape.specs.Reply.{Reply, refusal_number}
+use Rattle.std.specs.Prelude.{Bool, true, false, cond, ◌&&◌, List, [], ℕ, zero, suc, ◌+◌, ◌-◌, leb, eqb, length, Ok, Err}
+use Rattle.shape.specs.Reply.{Reply, refusal_number, Outcome}
 use Rattle.shape.specs.Check.{unless, reply, unless_refused}
 use Rattle.shape.specs.declared.Refusal.TheVariants.{Length, State}
-use Rattle.shape.specs.declared.Outcome.{Outcome}
-use Rattle.shape.specs.declared.Outcome.TheVariants.{Done, Refused}
 use Rattle.run.specs.declared.Run.{Run}
 use Rattle.run.specs.declared.Progress.{Progress}
 use Rattle.run.specs.declared.Progress.TheVariants.{Handed, Done as AtEnd, Refused as NotHanded}
@@ -34,8 +32,8 @@ abbrev pub begun_sheet : ℕ → ℕ → ℕ → Sheet
 begun_sheet n first end = record { refusal = 0; opened = false; ended = false; first = first; run = begun n first end }
 
 abbrev pub opened_as : Outcome → Sheet → Sheet
-opened_as Done s = s
-opened_as (Refused f) s = refusing (refusal_number f)
+opened_as (Ok _) s = s
+opened_as (Err f) s = refusing (refusal_number f)
 
 unfoldable pub open_sheet : List ℕ → Sheet
 open_sheet input = opened_as (open_check input) (begun_sheet (asked_size input) (asked_first input) (asked_end input))
@@ -62,7 +60,7 @@ keeps s =
     (leb s.refusal 11)
 
 unfoldable pub fill_check : Sheet → ℕ → Outcome
-fill_check s room = unless (leb line_room room) Length (unless (keeps s) State Done)
+fill_check s room = unless (leb line_room room) Length (unless (keeps s) State (Ok tt))
 
 abbrev pub standing : ℕ → ℕ → ℕ → ℕ → Run
 standing n k end figure = record { size = n; next = k; end = end; figure = figure; places = places_at n k end }

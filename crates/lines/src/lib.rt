@@ -6,20 +6,18 @@ mod shapes;
 
 ghost use Rattle.std.specs.Prelude.{◌≡◌, length};
 ghost use Rattle.shape.specs.Reply.{refusal_number, numbered_reply};
-ghost use Rattle.shape.specs.Check.{reply};
-ghost use Rattle.shape.specs.declared.Outcome.TheVariants.{Done};
 ghost use Rattle.run.specs.Calls.{progress};
 ghost use Rattle.text.specs.Text.{written};
 ghost use Rattle.lines.specs.Calls.{refusing, open_sheet, walks, began as has_begun, over as is_over, keeps};
 ghost use Rattle.lines.specs.Calls.{fill_check, piece_text, sheet_with, piece_sheet, fill_reply, fill_sheet, fill_end};
 
 use run::{Progress, Run};
-use shape::{Numbered, Outcome, Refusal};
+use shape::Refusal;
 
 #[repr(C)]
 #[derive(Clone, Copy)]
 pub struct Sheet {
-    // the number of the refusal that the NO line tells, 0 for none
+    // the number of the refusal that the NO line tells, 0 for none: programs in C hold a sheet, and no option crosses to C
     pub refusal: u64,
     // whether the first line has been handed out
     pub opened: bool,
@@ -31,54 +29,55 @@ pub struct Sheet {
     pub run: Run,
 }
 
-// What filling a buffer answers: how many bytes of it were written, 0 once the sheet has ended, and the sheet as it then stands.
+// What filling a buffer answers: how many bytes of it were written, 0 once the sheet has ended, and the sheet as it then stands, which the clause
+// `sheet_value` says of a refusal too.
 #[derive(Clone, Copy)]
 pub struct Filled {
-    pub bytes: Numbered,
+    pub bytes: Result<u64, Refusal>,
     pub sheet: Sheet,
 }
 
 impl Sheet {
     // The sheet that an input asks for. A bad input opens one too, that of its NO line.
+    #[tactic(auto, using(crate::proofs::Answers::answers))]
     pub fn open(input: &[u8]) -> Sheet
         ensures { result ≡ open_sheet input.now }
     {
-        let asked = text::read(input);
-        if !asked.reads {
+        let Some(asked) = text::read(input) else {
             return refused(Refusal::Input);
-        }
+        };
         let started = Run::start(asked.size as usize, asked.first, asked.end);
-        let outcome = started.outcome;
-        let run = started.run;
-        match outcome {
-            Outcome::Refused(refusal) => refused(refusal),
-            Outcome::Done => Sheet {
+        match started.outcome {
+            Err(refusal) => refused(refusal),
+            Ok(()) => Sheet {
                 refusal: 0,
                 opened: false,
                 ended: false,
                 first: asked.first,
-                run,
+                run: started.run,
             },
         }
     }
 
     // The sheet's next lines, as many as there is room for, from the start of the buffer on.
+    #[tactic(auto, using(crate::proofs::Answers::fills))]
     pub fn fill(self, out: &mut [u8]) -> Filled
         ensures bytes_value { numbered_reply result.bytes ≡ fill_reply self (length out.old) }
         ensures sheet_value { result.sheet ≡ fill_sheet self (length out.old) }
         ensures out_after { out.new ≡ fill_end self out.old }
     {
         match check(self, out.len()) {
-            Outcome::Refused(refusal) => Filled {
-                bytes: Numbered::Refused(refusal),
+            Err(refusal) => Filled {
+                bytes: Err(refusal),
                 sheet: self,
             },
-            Outcome::Done => hand_out(self, out),
+            Ok(()) => hand_out(self, out),
         }
     }
 }
 
 // The sheet that only tells a refusal.
+#[tactic(auto, using(crate::proofs::Answers::answers))]
 fn refused(refusal: Refusal) -> Sheet
     ensures { result ≡ refusing (refusal_number refusal) }
 {
@@ -87,30 +86,26 @@ fn refused(refusal: Refusal) -> Sheet
         opened: false,
         ended: false,
         first: 0,
-        run: Run {
-            size: 0,
-            next: 0,
-            end: 0,
-            figure: 0,
-            places: [0; 70],
-        },
+        run: Run::NONE,
     }
 }
 
 // What is asked before a piece is handed out.
-fn check(sheet: Sheet, room: usize) -> Outcome
+#[tactic(auto, using(crate::proofs::Tests::tests))]
+fn check(sheet: Sheet, room: usize) -> Result<(), Refusal>
     ensures { result ≡ fill_check sheet room }
 {
     if room < 256 {
-        return Outcome::Refused(Refusal::Length);
+        return Err(Refusal::Length);
     }
     if !belongs(sheet) {
-        return Outcome::Refused(Refusal::State);
+        return Err(Refusal::State);
     }
-    Outcome::Done
+    Ok(())
 }
 
 // Whether the parts of a sheet belong together.
+#[tactic(auto, using(crate::proofs::Tests::tests))]
 fn belongs(sheet: Sheet) -> bool
     ensures { result ≡ keeps sheet }
 {
@@ -118,24 +113,18 @@ fn belongs(sheet: Sheet) -> bool
         return sheet.refusal <= 11;
     }
     let run = sheet.run;
-    if !can_go_on(run) {
-        return false;
-    }
-    if !began(sheet.opened, sheet.first, run.next) {
-        return false;
-    }
-    over(sheet.ended, run.next, run.end)
+    can_go_on(run)
+        && began(sheet.opened, sheet.first, run.next)
+        && over(sheet.ended, run.next, run.end)
 }
 
 // Whether a run could step, or is done.
+#[tactic(auto, using(crate::proofs::Tests::tests))]
 fn can_go_on(run: Run) -> bool
     ensures { result ≡ walks (progress run) }
 {
-    let stepped = run.step();
-    let progress = stepped.progress;
-    match progress {
-        Progress::Handed => true,
-        Progress::Done => true,
+    match run.step().progress {
+        Progress::Handed | Progress::Done => true,
         Progress::Refused(_) => false,
     }
 }
@@ -143,62 +132,73 @@ fn can_go_on(run: Run) -> bool
 fn began(opened: bool, first: u64, next: u64) -> bool
     ensures { result ≡ has_begun opened first next }
 {
-    if opened {
-        return first <= next;
-    }
-    first == next
+    if opened { first <= next } else { first == next }
 }
 
 fn over(ended: bool, next: u64, end: u64) -> bool
     ensures { result ≡ is_over ended next end }
 {
-    if ended {
-        return next == end;
-    }
-    true
+    !ended || next == end
 }
 
 // The next piece. The run's last line, its first, or a line that tells a refusal is a piece of its own.
+#[tactic(auto, using(crate::proofs::Answers::pieces))]
 fn hand_out(sheet: Sheet, out: &mut [u8]) -> Filled
-    requires { fill_check sheet (length out.old) ≡ Done }
+    requires { fill_check sheet (length out.old) ≡ Ok tt }
     ensures bytes_value { numbered_reply result.bytes ≡ fill_reply sheet (length out.old) }
     ensures sheet_value { result.sheet ≡ piece_sheet sheet (length out.old) }
     ensures out_after { out.new ≡ written out.old 0 (piece_text sheet (length out.old)) }
 {
     let run = sheet.run;
     if sheet.ended {
-        return handed(0, sheet, sheet.opened, true, run);
+        return handed(0, sheet);
     }
     if sheet.refusal != 0 {
         let bytes = text::put_no(sheet.refusal, out);
-        return handed(bytes, sheet, sheet.opened, true, run);
+        return handed(
+            bytes,
+            Sheet {
+                ended: true,
+                ..sheet
+            },
+        );
     }
     if !sheet.opened {
         let bytes = text::put_run(run.size, sheet.first, run.end, out);
-        return handed(bytes, sheet, true, false, run);
+        return handed(
+            bytes,
+            Sheet {
+                opened: true,
+                ..sheet
+            },
+        );
     }
     if run.next == run.end {
         let bytes = text::put_end(run.end - sheet.first, run.figure, out);
-        return handed(bytes, sheet, true, true, run);
+        return handed(
+            bytes,
+            Sheet {
+                ended: true,
+                ..sheet
+            },
+        );
     }
     let listed = shapes::list(run, out);
-    let run = listed.run;
-    handed(listed.bytes, sheet, true, false, run)
+    handed(
+        listed.bytes,
+        Sheet {
+            run: listed.run,
+            ..sheet
+        },
+    )
 }
 
-// What a piece of so many bytes answers, and the sheet with what it changes.
-fn handed(bytes: usize, sheet: Sheet, opened: bool, ended: bool, run: Run) -> Filled
-    ensures bytes_value { numbered_reply result.bytes ≡ reply Done bytes }
-    ensures sheet_value { result.sheet ≡ sheet_with sheet opened ended run }
+// What a piece of so many bytes answers, and the sheet that it leaves.
+fn handed(bytes: usize, sheet: Sheet) -> Filled
+    ensures { result ≡ record { bytes = Ok bytes; sheet = sheet } }
 {
     Filled {
-        bytes: Numbered::Value(bytes as u64),
-        sheet: Sheet {
-            refusal: sheet.refusal,
-            opened,
-            ended,
-            first: sheet.first,
-            run,
-        },
+        bytes: Ok(bytes as u64),
+        sheet,
     }
 }

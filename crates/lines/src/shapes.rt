@@ -23,6 +23,7 @@ pub(crate) struct Listed {
 }
 
 // As many lines as there is room for, from the start of the buffer on.
+#[tactic(auto, using(crate::proofs::Carried::carries))]
 pub(crate) fn list(run: Run, out: &mut [u8]) -> Listed
     requires { progress run ≡ Handed }
     ensures bytes_value { result.bytes ≡ length (lines_of run (length out.old)) }
@@ -32,39 +33,34 @@ pub(crate) fn list(run: Run, out: &mut [u8]) -> Listed
     let size = run.size;
     let mut places = run.places;
     let mut entries = [0u16; 35];
-    natural::permutation_of(size, &places[0..2 * size], &mut entries[0..size]);
+    natural::permutation_of(size, &places[..2 * size], &mut entries[..size]);
     let mut depths = [0u8; 71];
-    walk::depths(size, &places[0..2 * size], &mut depths[0..2 * size + 1]);
+    walk::depths(size, &places[..2 * size], &mut depths[..2 * size + 1]);
     let walked = put_lines(
-        size,
-        run.next,
-        run.end,
-        run.figure,
-        &mut places[0..2 * size],
-        &mut entries[0..size],
-        &mut depths[0..2 * size + 1],
+        run,
+        &mut places[..2 * size],
+        &mut entries[..size],
+        &mut depths[..2 * size + 1],
         out,
     );
+    let places = places_left(walked.next, run.end, places);
     Listed {
         bytes: walked.bytes,
         run: Run {
-            size,
             next: walked.next,
-            end: run.end,
             figure: walked.figure,
-            places: places_left(walked.next, run.end, places),
+            places,
+            ..run
         },
     }
 }
 
 // The places of a state: all 0 once the run is done.
+#[tactic(auto, using(crate::proofs::Answers::answers))]
 fn places_left(next: u64, end: u64, places: [u8; 70]) -> [u8; 70]
     ensures { result ≡ cond (eqb next end) no_places places }
 {
-    if next == end {
-        return [0; 70];
-    }
-    places
+    if next == end { [0; 70] } else { places }
 }
 
 // How far the lines went: the number of the shape that comes next, the figure so far, and how many bytes were put.
@@ -76,55 +72,45 @@ struct Walked {
 }
 
 // Line after line, where there is room for any. A shape's two forms, its depths, its number's text and its change are those of the shape
-// before, moved on.
+// before, moved on. A `while`: the room ends it, and the bytes of a line are known once it is put.
+#[tactic(auto, using(crate::proofs::Walking::walking))]
 fn put_lines(
-    size: usize,
-    first: u64,
-    end: u64,
-    before: u64,
+    run: Run,
     places: &mut [u8],
     entries: &mut [u16],
     depths: &mut [u8],
     out: &mut [u8],
 ) -> Walked
-    requires le_size { (1 ≤ size) × (size ≤ largest_size) × (first < end) × (end ≤ C size) }
-    requires places_value { (places.old ≡ local_pattern size first)
+    requires le_size { (1 ≤ run.size) × (run.size ≤ largest_size) × (run.next < run.end) × (run.end ≤ C run.size) }
+    requires places_value { (places.old ≡ local_pattern run.size run.next)
         × (entries.old ≡ permutation (pattern_tree places.old))
         × (depths.old ≡ depths_of places.old) }
-    ensures next_value { result.next ≡ first + lines_in (standing size first end before) (length out.old) }
-    ensures figure_value { result.figure ≡ before + figure_of size first result.next }
-    ensures bytes_value { result.bytes ≡ length (shape_lines size first result.next) }
-    ensures out_after { out.new ≡ written out.old 0 (shape_lines size first result.next) }
-    ensures places_after { result.next < end → places.new ≡ local_pattern size result.next }
+    ensures next_value { result.next ≡ run.next + lines_in (standing run.size run.next run.end run.figure) (length out.old) }
+    ensures figure_value { result.figure ≡ run.figure + figure_of run.size run.next result.next }
+    ensures bytes_value { result.bytes ≡ length (shape_lines run.size run.next result.next) }
+    ensures out_after { out.new ≡ written out.old 0 (shape_lines run.size run.next result.next) }
+    ensures places_after { result.next < run.end → places.new ≡ local_pattern run.size result.next }
 {
-    // the number's text, and room for the byte that is put behind it, which is no part of it
+    // the number's text, and room for the byte that is put behind it, which is no part of it; its width stands beside, as `text::count_up` has it
     let mut digits = [0u8; 21];
-    let mut width = text::put_number(first, b' ', &mut digits, 0) - 1;
-    let mut change = local::change(size, places);
-    let mut figure = before;
-    let mut next = first;
+    let mut width = text::put_number(run.next, b' ', &mut digits, 0) - 1;
+    let mut change = local::change(run.size, places);
+    let mut figure = run.figure;
+    let mut next = run.next;
     let mut at = 0;
     while out.len() - at >= 256 {
-        // 64 bits hold no figure above this number
-        if figure > 18446744073709551615 - change {
-            return Walked {
-                next,
-                figure,
-                bytes: at,
-            };
+        if figure > u64::MAX - change {
+            break;
         }
-        let depth = depths[2 * size] as u64;
-        at = text::put_shape(&digits[0..width], places, entries, depth, change, out, at);
+        let depth = depths[2 * run.size] as u64;
+        at = text::put_shape(&digits[..width], places, entries, depth, change, out, at);
         figure += change;
         next += 1;
-        if next == end {
-            return Walked {
-                next,
-                figure,
-                bytes: at,
-            };
+        if next == run.end {
+            break;
         }
-        change = walk::next(size, places, entries, depths);
+        // the run is not over, so there is a next shape
+        change = walk::next(run.size, places, entries, depths).unwrap();
         width = text::count_up(&mut digits, width);
     }
     Walked {

@@ -4,6 +4,7 @@
 --     Carried                 the digits from i on were nines and are zeros now: those before i are still to be counted up
 --     carried_start, carried_more      so it is at the start, and behind a digit that was a nine
 --     carried_up, carried_over         another digit is raised, and that is all; or all were nines, and there is a digit more
+-- These four are the set counts.
 -- Assumes nothing.
 use mathlib.Core.Path.{◌≡◌, refl, sym, ap, ap₂, ◌∙◌}
 use mathlib.Core.List.{List, [], ◌∷◌, ◌++◌, append_assoc, append-nil}
@@ -159,3 +160,5 @@ module _ (d₀ : List ℕ) (width : ℕ) (d : List ℕ) (i : ℕ) (c : Carried d
       ∙ ap (λ (l : List ℕ). set l 0 49) (take-suc-set d width 48 (omega (arith, c.same)) ∙ ap (λ (l : List ℕ). l ++ (48 ∷ [])) filled ∙ longer)
       ∙ ap (λ (l : List ℕ). l ++ noughts width) (sym (decimal_digit 1 (omega arith)))
       ∙ sym (ap₂ {C = List ℕ} (λ m z. decimal (m + 1) ++ noughts z) nothing all) ∙ (c.left k e).whole
+
+pub ruleset counts = (carried_start, carried_up, carried_more, carried_over)

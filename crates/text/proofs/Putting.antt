@@ -8,6 +8,7 @@
 --     Entries                          a permutation, entry by entry: the rest is what those from i on come to
 --     entries_start, entries_next, entries_count, entries_end      so it is at the start, and stays; in the end a space is put
 --     entries_room, entries_wide       there is room for an entry and what stands behind it, and before the last for a whole word
+-- What the proofs of the functions use, each a set: patterns, permutations, numbers, smalls.
 -- Assumes nothing.
 use mathlib.Core.Path.{◌≡◌, refl, sym, ap, ◌∙◌}
 use mathlib.Core.Bool.{Bool, true, false}
@@ -28,7 +29,7 @@ use Rattle.catalan.specs.Table.{tabulate}
 use Rattle.catalan.proofs.Tables.{tabulate_at}
 use Rattle.text.specs.Text.{decimal, bits, commas, written}
 use Rattle.text.specs.Label.{label_word, word_bytes}
-use Rattle.text.proofs.Written.{written_stores, written_next, written_end, written_count}
+use Rattle.text.proofs.Written.{written_stores, written_start, written_next, written_end}
 use Rattle.text.proofs.Written.{Rest, rest_start, rest_over, rest_count, rest_end}
 use Rattle.text.proofs.Lengths.{length_bits, commas_some, commas_most, number_most}
 use Rattle.text.proofs.Decimals.{decimal_digit}
@@ -132,23 +133,19 @@ bits_at [] i h = absurd (omega arith)
 bits_at (x ∷ p) zero h = refl
 bits_at (x ∷ p) (suc i) h = bits_at p i (omega arith)
 
-module _ (d : List ℕ) (at : ℕ) (p : List ℕ) (i : ℕ) (out : List ℕ) (put : out ≡ written d at (take i (bits p))) (within : i ≤ length p) where
-  within_bits : i ≤ length (bits p)
-  within_bits = omega (arith, length_bits p)
+module _ (d : List ℕ) (at : ℕ) (p : List ℕ) (i : ℕ) (out : List ℕ) (put : out ≡ written d at (take i (bits p))) (room : at + length p < length d) where
+  pub bits_next : i < length p → set out (at + i) (48 + get_or p i 0) ≡ written d at (take (i + 1) (bits p))
+  bits_next on =
+      let long = length_bits p in
+      written_next d at (bits p) i out put (48 + get_or p i 0) (omega arith) (omega arith) (bits_at p i on)
 
-  module _ (room : at + length p < length d) where
-    pub bits_next : i < length p → set out (at + i) (48 + get_or p i 0) ≡ written d at (take (i + 1) (bits p))
-    bits_next on =
-        let long = length_bits p in
-        written_next d at (bits p) i out put within_bits (48 + get_or p i 0) (omega arith) (omega arith) (bits_at p i on)
+  pub bits_end : length p ≤ i → set out (at + length p) 32 ≡ written d at (bits p ++ (32 ∷ []))
+  bits_end done = rw (sym (length_bits p)) (written_end d at (bits p) i out put (omega (arith, length_bits p)) (omega (arith, length_bits p)) 32)
 
-    pub bits_end : length p ≤ i → set out (at + i) 32 ≡ written d at (bits p ++ (32 ∷ []))
-    bits_end done =
-        let long = length_bits p in
-        written_end d at (bits p) i out put within_bits 32 (omega arith) (omega arith)
+pub bits_count : (p : List ℕ) → length (bits p ++ (32 ∷ [])) ≡ length p + 1
+bits_count p = omega (arith, length_bits p, length-append (bits p) (32 ∷ []))
 
-  pub bits_count : length p ≤ i → at + i + 1 ≡ at + length (bits p ++ (32 ∷ []))
-  bits_count done = written_count d at (bits p) i out put within_bits 32 (omega (arith, length_bits p))
+pub ruleset patterns = (written_start, bits_next, bits_end, bits_count)
 
 -- ---- a permutation
 
@@ -217,3 +214,9 @@ module _ (d : List ℕ) (at : ℕ) (q : List ℕ) (small : (i : ℕ) → get_or 
 
       pub entries_end : out' ≡ written out r (decimal (get_or q (length q - 1) 0) ++ (32 ∷ [])) → out' ≡ written d at (rest q 0)
       entries_end put = rest_end d at (rest q 0) out r r' out' _ last put
+
+pub ruleset permutations = (entries_start, entries_room, entries_wide, entries_next, entries_count, entries_end)
+
+pub ruleset numbers = (number_room, number_count, number_written)
+
+pub ruleset smalls = (tens_most, small_count, small_written)

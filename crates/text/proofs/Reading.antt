@@ -2,44 +2,40 @@
 --     digit_means                  what the test of a digit finds
 --     front_.., behind_..          the digits that a text begins with and what stands behind them, by its first byte: _yes where that is one
 --     front_all, parts             they are digits; the text is these and those one after the other
---     unread, refused              what is said where an answer reads, of one that does not
---     ends_..                      where the digits end: not before a digit (_turn), and before the first byte that is none
+--     digits_..                    where they end: how many there are, and the text parted there
 --     form_..                      whether digits are in form, by how many they are
---     digit_..                     a digit's value, and that 64 bits hold the number with that digit more
---     value_..                     the number that the digits write: from each place on what is left to read, to the end, and past 64 bits
---     field_..                     the tests of a field, each where it fails; what is told where all pass; and the bounds that its code asks
---     Read, field_read, field_unread     what the answer of `field` tells
---     read_..                      the same for the line: each field that does not read, a text that goes on, and a text that reads
+--     value_.., digit_low          the number that the digits write: those so far and those still to come write it; a digit is no less than 0
+--     number_..                    the answer: none from 64 bits on, and the number at the end
+--     field_..                     whether a field reads: each test where it fails, and what is told where all pass
+--     line_..                      whether a line reads: each field where it does not, a text that goes on, and a text that reads
+-- What the proofs of the functions use, each a set: splits, forms, numbers, fields, lines.
 -- Assumes nothing.
-use mathlib.Core.Path.{◌≡◌, refl, sym, ap, ◌∙◌, subst⁻¹}
+use mathlib.Core.Path.{◌≡◌, refl, sym, ap, ◌∙◌}
 use mathlib.Core.Logic.{◌↔◌}
-use mathlib.Core.Bool.{Bool, true, false, not, cond, ◌&&◌, true≢false, and-false}
+use mathlib.Core.Bool.{Bool, true, false, cond, ◌&&◌, and-false}
 use mathlib.Core.List.{List, [], ◌∷◌, ◌++◌}
-use Prim.Native.Nat.{ℕ, ◌+◌, ◌-◌, ◌*◌, ◌/◌, ◌^◌, ◌≤◌, ◌<◌}
+use Prim.Native.Nat.{ℕ, ◌+◌, ◌-◌, ◌*◌, ◌^◌, ◌≤◌, ◌<◌}
 use native.Mathlib.Numerals.{add-one}
 use native.Mathlib.Omega.{arith}
-use mir.Syntax.{w64}
-use mir.Val.{Fits}
-use lib.Dec.{ltb, eqb}
-use lib.ListN.{length, get_or, take, drop, length-append, length-drop, drop_of_length-le}
-use lib.Seq.{drop-cons, take_at, drop-append_seam, drop-drop}
-use borrow.Author.Tests.{lt-ltb, le-ltb, le-leb, lt-leb, eq-eqb, ne_eqb, not-true, not-false}
+use lib.Dec.{ltb}
+use lib.ListN.{length, get_or, take, drop, drop_of_length-le}
+use lib.Seq.{take-append_seam, drop-cons, drop-append_seam}
+use borrow.Author.Tests.{lt-ltb, le-ltb, eq-eqb, ne_eqb}
+use Rattle.std.specs.Char.{is_ascii_digit}
+use Rattle.std.specs.List.{prefix_len, take_while}
+use Rattle.std.proofs.Common.{Some, None, ap₂, ◌≢◌, length-append, mul_comm}
+use Rattle.std.proofs.lemmas.List.Folds.{length-prefix_len}
+use Rattle.std.proofs.lemmas.Option.{none-some, cond_some}
 use Rattle.shape.specs.Every.{All}
 use Rattle.shape.proofs.Lists.{all_at}
 use Rattle.shape.proofs.Tests.{le_means, and_means}
-use Rattle.text.specs.Input.{Digit, digit, front, behind, value, value_from, in_form, fits, ends_in, field, next, nothing}
-use Rattle.text.specs.Input.{reads, asked_size, asked_first, asked_end}
+use Rattle.text.specs.Input.{Digit, digit, front, behind, value, value_from, in_form, fits, number_of, ends_in, field, next, nothing}
+use Rattle.text.specs.Input.{reads, asked, asked_size, asked_first, asked_end}
 
 -- ---- the digits that a text begins with
 
 pub digit_means : (b : ℕ) → (digit b ≡ true) ↔ Digit b
 digit_means b = and_means (le_means 48 b) (le_means b 57)
-
-byte_low : (b : ℕ) → b < 48 → digit b ≡ false
-byte_low b h = rw (lt-leb 48 b h) refl
-
-byte_high : (b : ℕ) → 57 < b → digit b ≡ false
-byte_high b h = rw (le-leb 48 b (omega arith), lt-leb b 57 h) refl
 
 pub front_yes : (b : ℕ) (s : List ℕ) → digit b ≡ true → front (b ∷ s) ≡ b ∷ front s
 unfolding front
@@ -78,58 +74,53 @@ parts (b ∷ s) = digit_parts b (front s) (behind s) s (parts s) (digit b)
 cons_at : (s : List ℕ) (i : ℕ) → i < length s → drop i s ≡ get_or s i 0 ∷ drop (i + 1) s
 cons_at s i h = rw (add-one, drop-cons s i 0)
 
--- ---- answers
+-- ---- where they end
 
--- what is said of an answer that reads, of one that does not
-pub unread : {P : Type 0} {b : Bool} → b ≡ false → b ≡ true → P
-unread f t = absurd (true≢false (sym t ∙ f))
+digits_many : (s : List ℕ) → prefix_len is_ascii_digit s ≡ length (front s)
+unfolding front
+digits_many [] = refl
+digits_many (b ∷ s) =
+    let all = digits_many s in
+    elim (digit b) as (λ t. cond t (1 + prefix_len is_ascii_digit s) 0 ≡ length (cond t (b ∷ front s) [])) [
+      | true ↦ omega (arith, all)
+      | false ↦ refl
+    ]
 
--- an answer that does not read, where it should not
-pub refused : {P Q R : Type 0} {a b : Bool} → a ≡ false → b ≡ false → (a ≡ b) × ((a ≡ true → P) × ((a ≡ true → Q) × (a ≡ true → R)))
-refused f g = (f ∙ sym g, (unread f, (unread f, unread f)))
+module _ (s : List ℕ) (n : ℕ) (count : n ≡ length (take_while is_ascii_digit s)) where
+  many : n ≡ length (front s)
+  many = count ∙ length-prefix_len is_ascii_digit s ∙ digits_many s
 
--- ---- where the digits end
+  pub digits_taken : take n s ≡ front s
+  digits_taken = ap₂ {C = List ℕ} (λ k l. take k l) many (sym (parts s)) ∙ take-append_seam (front s) (behind s)
 
-module _ (s : List ℕ) (from i : ℕ) (at : from + length (front (drop from s)) ≡ i + length (front (drop i s))) where
-  module _ (on : i < length s) where
-    pub ends_turn : 48 ≤ get_or s i 0 → get_or s i 0 ≤ 57 → from + length (front (drop from s)) ≡ i + 1 + length (front (drop (i + 1) s))
-    ends_turn l h =
-        let here : front (drop i s) ≡ get_or s i 0 ∷ front (drop (i + 1) s) = ap front (cons_at s i on) ∙ front_yes _ _ ((digit_means _).1 (l, h)) in
-        omega (arith, at, ap length here)
+  pub digits_dropped : drop n s ≡ behind s
+  digits_dropped = ap₂ {C = List ℕ} (λ k l. drop k l) many (sym (parts s)) ∙ drop-append_seam (front s) (behind s)
 
-    ends_here : digit (get_or s i 0) ≡ false → i ≡ from + length (front (drop from s))
-    ends_here e =
-        let here : front (drop i s) ≡ [] = ap front (cons_at s i on) ∙ front_no _ _ e in
-        omega (arith, at, ap length here)
+  pub digits_within : n ≤ length s
+  digits_within = omega (arith, many, ap length (parts s), length-append (front s) (behind s))
 
-    pub ends_low : get_or s i 0 < 48 → i ≡ from + length (front (drop from s))
-    ends_low h = ends_here (byte_low _ h)
-
-    pub ends_high : 57 < get_or s i 0 → i ≡ from + length (front (drop from s))
-    ends_high h = ends_here (byte_high _ h)
-
-  pub ends_all : length s ≤ i → i ≡ from + length (front (drop from s))
-  unfolding front
-  ends_all h = omega (arith, at, ap (λ (t : List ℕ). length (front t)) (drop_of_length-le s h))
+pub ruleset splits = (digits_taken, digits_dropped, digits_within)
 
 -- ---- whether they are in form
 
-pub form_none : (s : List ℕ) → length s ≡ 0 → false ≡ in_form s
+pub form_none : (s : List ℕ) → length s < 1 → false ≡ in_form s
 unfolding in_form
 form_none [] h = refl
 form_none (b ∷ s) h = absurd (omega arith)
 
-pub form_one : (s : List ℕ) → length s ≡ 1 → true ≡ in_form s
+pub form_one : (s : List ℕ) → 1 ≤ length s → length s < 2 → true ≡ in_form s
 unfolding in_form
-form_one [] h = absurd (omega arith)
-form_one (b ∷ []) h = refl
-form_one (b ∷ c ∷ s) h = absurd (omega arith)
+form_one [] some h = absurd (omega arith)
+form_one (b ∷ []) some h = refl
+form_one (b ∷ c ∷ s) some h = absurd (omega arith)
 
-pub form_more : (s : List ℕ) → (length s ≡ 0 → ⊥) → (length s ≡ 1 → ⊥) → ltb 48 (get_or s 0 0) ≡ in_form s
+pub form_more : (s : List ℕ) → 2 ≤ length s → ltb 48 (get_or s 0 0) ≡ in_form s
 unfolding in_form
-form_more [] g h = absurd (g refl)
-form_more (b ∷ []) g h = absurd (h refl)
-form_more (b ∷ c ∷ s) g h = refl
+form_more [] h = absurd (omega arith)
+form_more (b ∷ []) h = absurd (omega arith)
+form_more (b ∷ c ∷ s) h = refl
+
+pub ruleset forms = (form_none, form_one, form_more)
 
 -- ---- the number that they write
 
@@ -142,173 +133,119 @@ unfolding value_from
 value_rises v [] = omega arith
 value_rises v (b ∷ s) = omega (arith, value_rises (10 * v + (b - 48)) s)
 
-module _ (s : List ℕ) (digits : All Digit s) (i : ℕ) (on : i < length s) where
-  pub digit_low : 48 ≤ get_or s i 0
-  digit_low = (all_at Digit s digits i on).0
-
-  pub digit_small : (m : ℕ) → 9 ≤ m → get_or s i 0 - 48 ≤ m
-  digit_small m h = omega (arith, (all_at Digit s digits i on).1)
-
-  pub digit_fits : Fits w64 (get_or s i 0 - 48)
-  digit_fits = record { fits = omega (arith, (all_at Digit s digits i on).1) }
-
-  module _ (v : ℕ) (small : v ≤ (18446744073709551615 - (get_or s i 0 - 48)) / 10) where
-    pub digit_within : 10 * v + (get_or s i 0 - 48) < 2 ^ 64
-    digit_within = omega (arith, (all_at Digit s digits i on).1)
-
-    pub digit_added : Fits w64 (10 * v + (get_or s i 0 - 48))
-    digit_added = record { fits = digit_within }
+pub digit_low : (s : List ℕ) (i : ℕ) → All Digit s → i < length s → 48 ≤ get_or s i 0
+digit_low s i digits on = (all_at Digit s digits i on).0
 
 module _ (s : List ℕ) (v i : ℕ) (at : value_from v (drop i s) ≡ value s) where
   module _ (on : i < length s) where
-    pub value_turn : value_from (10 * v + (get_or s i 0 - 48)) (drop (i + 1) s) ≡ value s
+    pub value_turn : value_from (v * 10 + (get_or s i 0 - 48)) (drop (i + 1) s) ≡ value s
     unfolding value_from
-    value_turn = sym (ap (value_from v) (cons_at s i on)) ∙ at
+    value_turn = rw (mul_comm v 10) (sym (ap (value_from v) (cons_at s i on)) ∙ at)
 
-    pub value_over : All Digit s → (18446744073709551615 - (get_or s i 0 - 48)) / 10 < v → (b : Bool) → b ≡ false → b ≡ fits s
-    unfolding fits
-    value_over digits h b f =
-        let d = get_or s i 0 - 48 in
-        let over : 2 ^ 64 ≤ 10 * v + d = omega (arith, (all_at Digit s digits i on).1) in
-        f ∙ sym (le-ltb (value s) (2 ^ 64) (omega (arith, over, value_turn, value_rises (10 * v + d) (drop (i + 1) s))))
+    pub number_over : 2 ^ 64 ≤ v * 10 + (get_or s i 0 - 48) → None ≡ number_of s
+    unfolding fits number_of
+    number_over h =
+        let risen = value_rises (v * 10 + (get_or s i 0 - 48)) (drop (i + 1) s) in
+        rw (le-ltb (value s) (2 ^ 64) (omega (arith, value_turn, risen))) refl
 
-  module _ (end : length s ≤ i) where
-    pub value_end : v ≡ value s
-    unfolding value_from
-    value_end = sym (ap (value_from v) (drop_of_length-le s end)) ∙ at
+  pub number_end : length s ≤ i → v < 2 ^ 64 → Some v ≡ number_of s
+  unfolding value_from fits number_of
+  number_end end small =
+      let whole : v ≡ value s = sym (ap (value_from v) (drop_of_length-le s end)) ∙ at in
+      rw (lt-ltb (value s) (2 ^ 64) (omega (arith, whole))) (ap (λ (x : ℕ). Some x) whole)
 
-    pub value_held : v < 2 ^ 64 → true ≡ fits s
-    unfolding fits
-    value_held small = sym (lt-ltb (value s) (2 ^ 64) (omega (arith, value_end)))
+pub ruleset numbers = (value_begin, value_turn, digit_low, number_over, number_end)
 
 -- ---- a number with a byte behind it
 
--- The digits from place `from` of s on end at e.
-module _ (s : List ℕ) (from e : ℕ) (low : from ≤ length s) (at : e ≡ from + length (front (drop from s))) where
-  long : length s ≡ e + length (behind (drop from s))
-  long = omega (arith, at, low, ap length (parts (drop from s)), length-append (front (drop from s)) (behind (drop from s)), length-drop from s)
+module _ (end : ℕ) (s : List ℕ) where
+  pub field_unformed : in_form (front s) ≡ false → field end s ≡ false
+  unfolding field
+  field_unformed h = rw h refl
 
-  pub field_within : e ≤ length s
-  field_within = omega (arith, long)
+  unended : ends_in end (behind s) ≡ false → field end s ≡ false
+  unfolding field
+  unended h = ap (λ ends. in_form (front s) && (ends && fits (front s))) h ∙ and-false (in_form (front s))
 
-  taken : take (e - from) (drop from s) ≡ front (drop from s)
-  taken = ap (take (e - from)) (sym (parts (drop from s))) ∙ take_at (front (drop from s)) (behind (drop from s)) (e - from) (omega (arith, at))
+  ends_nowhere : (b : List ℕ) → length b ≡ 0 → ends_in end b ≡ false
+  unfolding ends_in
+  ends_nowhere [] none = refl
+  ends_nowhere (x ∷ b) none = absurd (omega arith)
 
-  left : drop e s ≡ behind (drop from s)
-  left =
-      let t = drop from s in
-      ap (λ (k : ℕ). drop k s) at ∙ sym (drop-drop (length (front t)) from s) ∙ ap (drop (length (front t))) (sym (parts t))
-      ∙ drop-append_seam (front t) (behind t)
+  pub field_ended : length (behind s) ≡ 0 → field end s ≡ false
+  field_ended none = unended (ends_nowhere (behind s) none)
 
-  pub field_digits : All Digit (take (e - from) (drop from s))
-  field_digits = subst⁻¹ (All Digit) taken (front_all (drop from s))
+  pub field_other : (b : ℕ) (t : List ℕ) → behind s ≡ b ∷ t → (b ≡ end → ⊥) → field end s ≡ false
+  unfolding ends_in
+  field_other b t is other = unended (ap (ends_in end) is ∙ ne_eqb b end other)
 
-  pub field_value : (v : ℕ) → v ≡ value (take (e - from) (drop from s)) → v ≡ value (front (drop from s))
-  field_value v is = is ∙ ap value taken
+  fit_decides : (t : Bool) → fits (front s) ≡ t → None ≡ cond t (Some (value (front s))) None → field end s ≡ false
+  unfolding field
+  fit_decides true e h = absurd (none-some _ h)
+  fit_decides false e h =
+      ap (λ fit. in_form (front s) && (ends_in end (behind s) && fit)) e
+      ∙ ap (λ rest. in_form (front s) && rest) (and-false (ends_in end (behind s))) ∙ and-false (in_form (front s))
 
-  module _ (end : ℕ) where
-    pub field_unformed : (r : Bool) → r ≡ in_form (take (e - from) (drop from s)) → not r ≡ true → field end (drop from s) ≡ false
-    unfolding field
-    field_unformed r is h =
-        let form : in_form (front (drop from s)) ≡ false = sym (ap in_form taken) ∙ sym is ∙ not-true r h in
-        rw form refl
+  pub field_unfit : None ≡ number_of (front s) → field end s ≡ false
+  unfolding number_of
+  field_unfit h = fit_decides (fits (front s)) refl h
 
-    unended : ends_in end (behind (drop from s)) ≡ false → field end (drop from s) ≡ false
-    unfolding field
-    unended h = ap (λ ends. in_form (front (drop from s)) && (ends && fits (front (drop from s)))) h ∙ and-false (in_form (front (drop from s)))
+  pub field_reads : (t : List ℕ) (v : ℕ) → in_form (front s) ≡ true → behind s ≡ end ∷ t → Some v ≡ number_of (front s)
+      → (field end s ≡ true) × ((v ≡ value (front s)) × (t ≡ next s))
+  unfolding field ends_in number_of
+  field_reads t v form ends fit =
+      let fits = cond_some _ _ _ (sym fit) in
+      (rw (form, ends, eq-eqb end end refl) fits.0, (sym fits.1, ap (drop 1) (sym ends)))
 
-    pub field_ended : e ≡ length s → field end (drop from s) ≡ false
-    unfolding ends_in
-    field_ended all = unended (ap (ends_in end) (sym left ∙ drop_of_length-le s {i = e} (omega (arith, all))))
+pub ruleset fields = (front_all, field_unformed, field_ended, field_other, field_unfit, field_reads)
 
-  module _ (some : e ≡ length s → ⊥) where
-    pub field_there : e < length s
-    field_there = omega (arith, field_within, some)
+-- ---- the line: t, u and r are what stands behind its numbers
 
-    pub field_room : length s * 1 < 2 ^ 63 → Fits w64 (e + 1)
-    field_room room = record { fits = omega (arith, field_there) }
+module _ (s : List ℕ) where
+  pub line_size : field 32 s ≡ false → None ≡ asked s
+  unfolding reads asked
+  line_size h = rw h refl
 
-    next_byte : behind (drop from s) ≡ get_or s e 0 ∷ drop (e + 1) s
-    next_byte = sym left ∙ cons_at s e field_there
+  module _ (t : List ℕ) (one : field 32 s ≡ true) (rest : t ≡ next s) where
+    pub line_first : field 32 t ≡ false → None ≡ asked s
+    unfolding reads asked
+    line_first h = rw (one, ap (field 32) (sym rest) ∙ h) refl
 
-    module _ (end : ℕ) where
-      byte_tested : ends_in end (behind (drop from s)) ≡ eqb (get_or s e 0) end
-      unfolding ends_in
-      byte_tested = ap (ends_in end) next_byte
+    module _ (u : List ℕ) (two : field 32 t ≡ true) (after : u ≡ next t) where
+      third : u ≡ next (next s)
+      third = after ∙ ap next rest
 
-      pub field_other : (get_or s e 0 ≡ end → ⊥) → field end (drop from s) ≡ false
-      field_other other = unended end (byte_tested ∙ ne_eqb (get_or s e 0) end other)
+      pub line_end : field 10 u ≡ false → None ≡ asked s
+      unfolding reads asked
+      line_end h = rw (one, ap (field 32) (sym rest) ∙ two, ap (field 10) (sym third) ∙ h) refl
 
-      pub field_reads : (r b : Bool) → r ≡ in_form (take (e - from) (drop from s)) → not r ≡ false → get_or s e 0 ≡ end
-          → b ≡ fits (take (e - from) (drop from s)) → b ≡ field end (drop from s)
-      unfolding field
-      field_reads r b is h same fit =
-          let form : in_form (front (drop from s)) ≡ true = sym (ap in_form taken) ∙ sym is ∙ not-false r h in
-          let ends : ends_in end (behind (drop from s)) ≡ true = byte_tested ∙ eq-eqb (get_or s e 0) end same in
-          fit ∙ ap fits taken ∙ rw (form, ends) refl
+      module _ (r : List ℕ) (three : field 10 u ≡ true) (last : r ≡ next u) where
+        rest_decides : reads s ≡ nothing r
+        unfolding reads
+        rest_decides =
+            rw (one, ap (field 32) (sym rest) ∙ two, ap (field 10) (sym third) ∙ three)
+            (ap nothing (sym (last ∙ ap next third)))
 
-    pub field_bound : (n : ℕ) → n ≡ e + 1 → n ≤ length s
-    field_bound n is = omega (arith, field_there)
+        some_left : (r' : List ℕ) → length r' ≢ 0 → nothing r' ≡ false
+        unfolding nothing
+        some_left [] some = absurd (some refl)
+        some_left (x ∷ r') some = refl
 
-    pub field_next : (n : ℕ) → n ≡ e + 1 → drop n s ≡ next (drop from s)
-    field_next n is = ap (λ (k : ℕ). drop k s) is ∙ sym (ap (drop 1) next_byte)
+        none_left : (r' : List ℕ) → length r' ≡ 0 → nothing r' ≡ true
+        unfolding nothing
+        none_left [] none = refl
+        none_left (x ∷ r') none = absurd (omega arith)
 
--- ---- the line
+        pub line_more : length r ≢ 0 → None ≡ asked s
+        unfolding asked
+        line_more some = rw (rest_decides ∙ some_left r some) refl
 
--- of the text s from some place on, t: a field reads, v is its value, and at n the text goes on
-pub record Read (end : ℕ) (s t : List ℕ) (v n : ℕ) : Type 0 where
-  pub reads : field end t ≡ true
-  pub value : v ≡ value (front t)
-  pub within : n ≤ length s
-  pub next : drop n s ≡ next t
+        pub line_done : (size first end : ℕ) → size ≡ value (front s) → first ≡ value (front t) → end ≡ value (front u)
+            → length r ≡ 0 → Some (record { size = size; first = first; end = end }) ≡ asked s
+        unfolding asked asked_size asked_first asked_end
+        line_done size first end a b c none =
+            let first_is = b ∙ ap (λ (l : List ℕ). value (front l)) rest in
+            let end_is = c ∙ ap (λ (l : List ℕ). value (front l)) third in
+            rw (rest_decides ∙ none_left r none, a, first_is, end_is) refl
 
--- what `field` tells
-module _ (end : ℕ) (s t : List ℕ) {b : Bool} {v n : ℕ}
-    (told : (b ≡ field end t) × ((b ≡ true → v ≡ value (front t)) × ((b ≡ true → n ≤ length s) × (b ≡ true → drop n s ≡ next t))))
-  where
-    pub field_unread : not b ≡ true → field end t ≡ false
-    field_unread h = sym told.0 ∙ not-true b h
-
-    pub field_read : not b ≡ false → Read end s t v n
-    field_read h =
-        let y = not-false b h in
-        record { reads = sym told.0 ∙ y; value = told.1.0 y; within = told.1.1.0 y; next = told.1.1.1 y }
-
-pub read_size : (s : List ℕ) → field 32 s ≡ false → reads s ≡ false
-unfolding reads
-read_size s h = rw h refl
-
-module _ {s : List ℕ} {size n : ℕ} (one : Read 32 s s size n) where
-  pub read_first : field 32 (drop n s) ≡ false → reads s ≡ false
-  unfolding reads
-  read_first h = rw (one.reads, sym (ap (field 32) one.next) ∙ h) refl
-
-  module _ {first m : ℕ} (two : Read 32 s (drop n s) first m) where
-    third : drop m s ≡ next (next s)
-    third = two.next ∙ ap next one.next
-
-    pub read_end_lem : field 10 (drop m s) ≡ false → reads s ≡ false
-    unfolding reads
-    read_end_lem h = rw (one.reads, sym (ap (field 32) one.next) ∙ two.reads, sym (ap (field 10) third) ∙ h) refl
-
-    module _ {end k : ℕ} (three : Read 10 s (drop m s) end k) where
-      rest_decides : reads s ≡ nothing (drop k s)
-      unfolding reads
-      rest_decides =
-          rw (one.reads, sym (ap (field 32) one.next) ∙ two.reads, sym (ap (field 10) third) ∙ three.reads)
-          (ap nothing (sym (three.next ∙ ap next third)))
-
-      pub read_more : k < length s → reads s ≡ false
-      unfolding nothing
-      read_more h = rest_decides ∙ ap nothing (drop-cons s k 0 h)
-
-      pub read_done : length s ≤ k
-          → (true ≡ reads s) × ((true ≡ true → size ≡ asked_size s) × ((true ≡ true → first ≡ asked_first s) × (true ≡ true → end ≡ asked_end s)))
-      unfolding nothing asked_size asked_first asked_end
-      read_done h = (
-        sym (rest_decides ∙ ap nothing (drop_of_length-le s h)),
-        (
-          λ y. one.value,
-          (λ y. two.value ∙ ap (λ (l : List ℕ). value (front l)) one.next, λ y. three.value ∙ ap (λ (l : List ℕ). value (front l)) third),
-        ),
-      )
+pub ruleset lines = (line_size, line_first, line_end, line_more, line_done)

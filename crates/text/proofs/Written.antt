@@ -4,7 +4,8 @@
 --     written_stores          stores one after the other are a text
 --     written_then            a text behind a text is both as one
 --     written_again           a text put over another that is no longer is as if the other had not been put
---     written_start, written_next, written_count, written_end      a text is put byte by byte, and a last byte behind it
+--     written_start, written_next, written_end     a text is put byte by byte, and a last byte behind it
+--     written_copied          it is copied into its place, and the same byte put behind it
 --     Rest                    a text is put piece by piece: with the rest put from r on, the same comes out as at the start
 --     rest_start, rest_next, rest_count, rest_end      so it is at the start, and behind each piece; the last piece is all of the rest
 --     rest_over               so it is, too, where something was put behind a piece that is no longer than the rest
@@ -16,7 +17,10 @@ use native.Mathlib.Nat.{add-zero}
 use native.Mathlib.Numerals.{add-one}
 use native.Mathlib.Omega.{arith}
 use lib.ListN.{length, get_or, set, take, drop, length-append, length-drop, take-append-drop}
-use lib.Seq.{take_all, take-suc, length-take-le, take_at, drop-append-add, drop-drop, sets, sets-eq}
+use lib.Seq.{take_all, take-length, take-suc, length-take-le, take_at, drop-append-add, drop-drop, sets, sets-eq}
+use borrow.Rule.Slice.PartMut.{put_mid}
+use Rattle.std.proofs.lemmas.Slice.{put_mid-paste}
+use Rattle.std.proofs.lemmas.List.Edits.{paste_all}
 use Rattle.text.specs.Text.{written}
 
 pub written_length : (d : List ℕ) (at : ℕ) (text : List ℕ) → at + length text ≤ length d → length (written d at text) ≡ length d
@@ -63,9 +67,9 @@ module _ (d : List ℕ) (at : ℕ) (a b : List ℕ) (room : at + length a ≤ le
 pub written_start : (d : List ℕ) (at : ℕ) (text : List ℕ) → d ≡ written d at (take 0 text)
 written_start d at text = sym (written_none d at)
 
-module _ (d : List ℕ) (at : ℕ) (text : List ℕ) (i : ℕ) (out : List ℕ) (put : out ≡ written d at (take i text)) (within : i ≤ length text) where
-  behind : (x : ℕ) → at + i < length d → set out (at + i) x ≡ written d at (take i text ++ (x ∷ []))
-  behind x room =
+module _ (d : List ℕ) (at : ℕ) (text : List ℕ) (i : ℕ) (out : List ℕ) (put : out ≡ written d at (take i text)) where
+  behind : i ≤ length text → (x : ℕ) → at + i < length d → set out (at + i) x ≡ written d at (take i text ++ (x ∷ []))
+  behind within x room =
       let front = take i text in
       let before = written d at front in
       let long : at + i ≡ at + length front = ap (λ (k : ℕ). at + k) (sym (length-take-le i text within)) in
@@ -75,13 +79,22 @@ module _ (d : List ℕ) (at : ℕ) (text : List ℕ) (i : ℕ) (out : List ℕ) 
 
   pub written_next : (x : ℕ) → at + length text < length d → i < length text → x ≡ get_or text i 0
       → set out (at + i) x ≡ written d at (take (i + 1) text)
-  written_next x room on e = behind x (omega arith) ∙ rw (e, add-one i, take-suc text i 0 on)
+  written_next x room on e = behind (omega arith) x (omega arith) ∙ rw (e, add-one i, take-suc text i 0 on)
 
-  pub written_end : (end : ℕ) → at + length text < length d → length text ≤ i → set out (at + i) end ≡ written d at (text ++ (end ∷ []))
-  written_end end room done = behind end (omega arith) ∙ rw (take_all i text done)
+pub written_end : (d : List ℕ) (at : ℕ) (text : List ℕ) (i : ℕ) (out : List ℕ) → out ≡ written d at (take i text) → length text ≤ i
+    → at + length text < length d → (end : ℕ) → set out (at + length text) end ≡ written d at (text ++ (end ∷ []))
+written_end d at text i out put done room end =
+    let whole : take i text ≡ take (length text) text = take_all i text done ∙ sym (take-length text) in
+    behind d at text (length text) out (put ∙ ap (written d at) whole) (omega arith) end room ∙ rw (take-length text)
 
-  pub written_count : (end : ℕ) → length text ≤ i → at + i + 1 ≡ at + length (text ++ (end ∷ []))
-  written_count end done = omega (arith, length-append text (end ∷ []))
+-- a text that is copied into its place, and a last byte behind it
+pub written_copied : (d : List ℕ) (at : ℕ) (text new : List ℕ) (room : at + length text < length d) → new ≡ text → (end : ℕ)
+    → set (put_mid at (at + length text - at) d new) (at + length text) end ≡ written d at (text ++ (end ∷ []))
+written_copied d at text new room same end =
+    let n = length text in
+    let k : n ≡ at + n - at = omega arith in
+    let put = put_mid-paste at (at + n - at) d new text n same k refl ∙ paste_all d at text n refl in
+    written_end d at text n _ (put ∙ ap (written d at) (sym (take-length text))) (omega arith) room end
 
 -- ---- piece by piece
 

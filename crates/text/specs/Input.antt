@@ -7,14 +7,17 @@
 --     value_from, value    the number that digits write, after those of v and alone
 --     in_form              whether digits are some, with no 0 before others
 --     fits                 whether 64 bits hold the number that they write
+--     number_of            that number, none where they do not
 --     ends_in, field       whether a text begins with a byte; with a number and that byte
 --     next                 the text behind both
 --     nothing              whether there is no text
 --     reads                whether an input reads as three numbers with nothing after them
 --     asked_size, asked_first, asked_end   the numbers that it asks for
+--     asked                what reading answers: these numbers, none where an input does not read
 -- Assumes nothing.
-use Rattle.std.specs.Prelude.{◌≡◌, Bool, true, false, cond, ◌&&◌, List, [], ◌∷◌, ℕ, ◌+◌, ◌-◌, ◌*◌, ◌^◌, ◌≤◌, ◌<◌, leb, ltb, eqb, drop}
+use Rattle.std.specs.Prelude.{◌≡◌, Bool, true, false, cond, ◌&&◌, Option, Some, None, List, [], ◌∷◌, ℕ, ◌+◌, ◌-◌, ◌*◌, ◌^◌, ◌≤◌, ◌<◌, leb, ltb, eqb, drop}
 use Rattle.text.specs.Text.{decimal, line}
+use Rattle.text.specs.declared.input.Asked.{Asked}
 
 unfoldable pub ask_line : ℕ → ℕ → ℕ → List ℕ
 ask_line n first end = line (decimal n ∷ decimal first ∷ decimal end ∷ [])
@@ -55,6 +58,9 @@ in_form (b ∷ c ∷ s) = ltb 48 b
 unfoldable pub fits : List ℕ → Bool
 fits s = ltb (value s) (2 ^ 64)
 
+unfoldable pub number_of : List ℕ → Option ℕ
+number_of s = cond (fits s) (Some (value s)) None
+
 unfoldable pub ends_in : ℕ → List ℕ → Bool
 ends_in end [] = false
 ends_in end (b ∷ s) = eqb b end
@@ -81,3 +87,6 @@ asked_first s = value (front (next s))
 
 unfoldable pub asked_end : List ℕ → ℕ
 asked_end s = value (front (next (next s)))
+
+unfoldable pub asked : List ℕ → Option Asked
+asked s = cond (reads s) (Some (record { size = asked_size s; first = asked_first s; end = asked_end s })) None

@@ -4,7 +4,7 @@ ghost use Rattle.catalan.specs.Table.{tabulate};
 ghost use Rattle.text.specs.Label.{label_word};
 
 // Each number below 100 with a comma behind it, the first byte lowest; the highest byte is how many bytes that is, two or three.
-const LABELS: [u32; 100] = [
+static LABELS: [u32; 100] = [
     0x02002c30, 0x02002c31, 0x02002c32, 0x02002c33, 0x02002c34, 0x02002c35, 0x02002c36, 0x02002c37,
     0x02002c38, 0x02002c39, 0x032c3031, 0x032c3131, 0x032c3231, 0x032c3331, 0x032c3431, 0x032c3531,
     0x032c3631, 0x032c3731, 0x032c3831, 0x032c3931, 0x032c3032, 0x032c3132, 0x032c3232, 0x032c3332,
@@ -21,8 +21,8 @@ const LABELS: [u32; 100] = [
 ];
 
 // Its own function, so that the table is compared with the definition once.
-pub(crate) fn words() -> [u32; 100]
-    ensures { result ≡ tabulate 100 label_word }
+pub(crate) fn words() -> &'static [u32; 100]
+    ensures { result.now ≡ tabulate 100 label_word }
 {
-    LABELS
+    &LABELS
 }

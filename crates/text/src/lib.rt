@@ -9,6 +9,7 @@ mod labels;
 ghost use Rattle.std.specs.Prelude.{◌≡◌, ℕ, ◌+◌, ◌≤◌, ◌<◌, length, get_or};
 ghost use Rattle.text.specs.Text.{run_line, shape_text, end_line, no_line, written, line_room};
 
+use fields::Line;
 pub use fields::{count_up, put_number};
 pub use input::{Asked, read};
 
@@ -18,10 +19,12 @@ pub fn put_run(size: usize, first: u64, end: u64, out: &mut [u8]) -> usize
     ensures value { result ≡ length (run_line size first end) }
     ensures out_after { out.new ≡ written out.old 0 (run_line size first end) }
 {
-    let at = fields::put_text(b"RUN", b' ', out, 0);
-    let at = fields::put_number(size as u64, b' ', out, at);
-    let at = fields::put_number(first, b' ', out, at);
-    fields::put_number(end, b'\n', out, at)
+    let mut line = Line { out, at: 0 };
+    line.text(b"RUN", b' ');
+    line.number(size as u64, b' ');
+    line.number(first, b' ');
+    line.number(end, b'\n');
+    line.at
 }
 
 // The line of a shape: its number's digits, its pattern, its permutation, its depth and its change.
@@ -41,11 +44,13 @@ pub fn put_shape(
     ensures out_after { out.new
         ≡ written out.old at (shape_text digits.now places.now entries.now depth change) }
 {
-    let at = fields::put_text(digits, b' ', out, at);
-    let at = fields::put_bits(places, out, at);
-    let at = fields::put_entries(entries, out, at);
-    let at = fields::put_small(depth, b' ', out, at);
-    fields::put_small(change, b'\n', out, at)
+    let mut line = Line { out, at };
+    line.text(digits, b' ');
+    line.bits(places);
+    line.entries(entries);
+    line.small(depth, b' ');
+    line.small(change, b'\n');
+    line.at
 }
 
 // The line that tells how many shapes there were, and the figure.
@@ -54,9 +59,11 @@ pub fn put_end(count: u64, figure: u64, out: &mut [u8]) -> usize
     ensures value { result ≡ length (end_line count figure) }
     ensures out_after { out.new ≡ written out.old 0 (end_line count figure) }
 {
-    let at = fields::put_text(b"END", b' ', out, 0);
-    let at = fields::put_number(count, b' ', out, at);
-    fields::put_number(figure, b'\n', out, at)
+    let mut line = Line { out, at: 0 };
+    line.text(b"END", b' ');
+    line.number(count, b' ');
+    line.number(figure, b'\n');
+    line.at
 }
 
 // The line that tells a refusal.
@@ -65,6 +72,8 @@ pub fn put_no(refusal: u64, out: &mut [u8]) -> usize
     ensures value { result ≡ length (no_line refusal) }
     ensures out_after { out.new ≡ written out.old 0 (no_line refusal) }
 {
-    let at = fields::put_text(b"NO", b' ', out, 0);
-    fields::put_number(refusal, b'\n', out, at)
+    let mut line = Line { out, at: 0 };
+    line.text(b"NO", b' ');
+    line.number(refusal, b'\n');
+    line.at
 }

@@ -8,6 +8,7 @@
 --     Climbing                        the depths up to a place are written, and the excess there is known
 --     climb_..                        the loop of depths: _begin is what holds at its start, _turn what one turn makes, _end what it leaves;
 --                                     `climb` is what it asks on the way, for `search`
+--     filled_more                     the loop of deepen: one depth more
 --     pairs_low, least_low            behind the changed place no more ones than zeros have come
 --     upper_climbs, upper_rests       so the upper one of two neighbours climbs by one at the changed place and behind it no further
 --                                     (behind_counts)
@@ -15,7 +16,7 @@
 --     upper_depths                    the law: the depths of the upper one of two neighbours, from the lower one's
 -- Assumes nothing.
 use mathlib.Core.Path.{◌≡◌, refl, sym, ap, ap₂, ◌∙◌}
-use mathlib.Core.List.{List, [], ◌∷◌, ◌++◌}
+use mathlib.Core.List.{List, [], ◌∷◌, ◌++◌, append_assoc}
 use Prim.Native.Nat.{ℕ, zero, suc, ◌+◌, ◌-◌, ◌*◌, ◌≤◌, ◌<◌, max}
 use native.Mathlib.Nat.{zero-add}
 use native.Mathlib.Numerals.{add-one}
@@ -27,6 +28,7 @@ use lib.Seq.{take-take, take-length, take_all, take-suc, take-suc-set, take-appe
 use lib.Seq.{get_or-take, get_or-append-add, ext_get_or}
 use mir.Syntax.{w8}
 use mir.Val.{Fits}
+use Rattle.std.proofs.lemmas.List.{replicate_more}
 use Rattle.catalan.specs.Count.{largest_size}
 use Rattle.shape.specs.Form.{count, Feasible}
 use Rattle.shape.specs.Number.{largest, depth}
@@ -155,6 +157,13 @@ module _ (n : ℕ) (p d : List ℕ) (e i : ℕ) (g : Feasible n p) (c : Climbing
               rw (add-one (i + 1), take-suc-set d (i + 1) x (omega (arith, c.long)), c.written, new)
               (sym (take-suc (depths_of p) (i + 1) 0 (omega (arith, length_depths p, place_on))));
         }
+
+-- a depth more, where the depths from b on are the one number x
+pub filled_more : (front : List ℕ) (b x : ℕ) (written : List ℕ) (i : ℕ) → written ≡ front ++ replicate (i - b) x → b ≤ i
+    → written ++ x ∷ [] ≡ front ++ replicate (i + 1 - b) x
+filled_more front b x written i h on =
+    let more : i - b + 1 ≡ i + 1 - b = omega arith in
+    rw (h, append_assoc front (replicate (i - b) x) (x ∷ []), replicate_more (i - b) x, more) refl
 
 -- what a turn asks
 pub ruleset climb = (climb_begin, place_on, climb_doubled, climb_raised, climb_open, climb_turn, climb_end)

@@ -11,9 +11,9 @@
 --     upper_entries                                           the law: the permutation of the upper one of two neighbours, from the lower one's
 -- Assumes nothing.
 use mathlib.Core.Path.{◌≡◌, refl, sym, ap, ap₂, ◌∙◌, subst₂}
-use mathlib.Core.List.{List, [], ◌∷◌, ◌++◌, append-nil, map}
+use mathlib.Core.List.{List, [], ◌∷◌, ◌++◌, append_assoc, append-nil, map}
 use Prim.Native.Nat.{ℕ, zero, suc, ◌+◌, ◌-◌, ◌≤◌, ◌<◌}
-use native.Mathlib.Nat.{add-zero}
+use native.Mathlib.Nat.{add-zero, sub_self}
 use native.Mathlib.Omega.{arith}
 use lib.ListN.{length, take, replicate, length-append}
 use lib.Seq.{take_at}
@@ -41,6 +41,8 @@ module _ (k m x : ℕ) where
   unfolding relabelled
   relabelled_above h l = rw (lt-leb x k h, le-ltb x (k + m + 2) l)
 
+pub ruleset cases = (relabelled_kept, relabelled_next, relabelled_above)
+
 rising_length : (b j : ℕ) → length (rising b j) ≡ j
 unfolding rising
 rising_length b zero = refl
@@ -52,6 +54,20 @@ rising_last b zero = rw add-zero
 rising_last b (suc j) =
     let next : b + suc j ≡ suc b + j = omega arith in
     rw next (ap {B = List ℕ} (λ w. suc b ∷ w) (rising_last (suc b) j))
+
+module _ (front : List ℕ) (b : ℕ) where
+  pub rising_begin : front ≡ front ++ rising b (b - b)
+  unfolding rising
+  rising_begin = rw sub_self (sym (append-nil front))
+
+  pub rising_more : (written : List ℕ) (i : ℕ) → written ≡ front ++ rising b (i - b) → b ≤ i
+      → written ++ (i + 1) ∷ [] ≡ front ++ rising b (i + 1 - b)
+  rising_more written i h on =
+      let more : i + 1 - b ≡ suc (i - b) = omega arith in
+      let label : suc (b + (i - b)) ≡ i + 1 = omega arith in
+      rw (h, append_assoc front (rising b (i - b)) ((i + 1) ∷ []), more, rising_last b (i - b), label) refl
+
+pub ruleset rises = (rising_begin, rising_more)
 
 rising_relabelled : (k m b c j : ℕ) → k + m + 1 ≤ b → b ≡ c + m → map (relabelled k m) (rising b j) ≡ rising c j
 unfolding rising

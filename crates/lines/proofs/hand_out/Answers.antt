@@ -1,0 +1,31 @@
+-- `lines::hand_out`: each test leads to the piece that it stands for.
+-- Assumes nothing.
+use Rattle.std.proofs.Common.{refl}
+use Rattle.lines.proofs.Answers.{piece_answers, piece_over, piece_no, piece_first, piece_last, piece_shapes}
+use Rattle.lines.proofs.hand_out.Goals as goal
+
+pub returns-then-sheet : goal.returns-then-sheet
+returns-then-sheet c = piece_answers _ _ c.requires (piece_over _ _ c.requires c.if-sheet.true) refl refl _ c.handed.ensures
+
+pub returns-then-sheet-ne0 : goal.returns-then-sheet-ne0
+returns-then-sheet-ne0 c =
+    let put = c.put_no-bytes.ensures in
+    piece_answers _ _ c.requires (piece_no _ _ c.requires c.if-sheet.false c.if-sheet-ne0.true) put.value put.out_after _ c.handed-then-sheet-ne0.ensures
+
+pub returns-then-not-sheet : goal.returns-then-not-sheet
+returns-then-not-sheet c =
+    let put = c.put_run-bytes.ensures in
+    let piece = piece_first _ _ c.requires c.if-sheet.false c.if-sheet-ne0.false c.if-not-sheet.true in
+    piece_answers _ _ c.requires piece put.value put.out_after _ c.handed-then-not-sheet.ensures
+
+pub returns-then-run : goal.returns-then-run
+returns-then-run c =
+    let put = c.put_end-bytes.ensures in
+    let piece = piece_last _ _ c.requires c.if-sheet.false c.if-sheet-ne0.false c.if-not-sheet.false c.if-run.true in
+    piece_answers _ _ c.requires piece put.value put.out_after _ c.handed-then-run.ensures
+
+pub returns : goal.returns
+returns c =
+    let put = c.list-listed.ensures in
+    let piece = piece_shapes _ _ c.requires c.if-sheet.false c.if-sheet-ne0.false c.if-not-sheet.false c.if-run.false _ put.run_value in
+    piece_answers _ _ c.requires piece put.bytes_value put.out_after _ c.handed-2.ensures
