@@ -1,4 +1,3 @@
 pub mod Replies
-pub mod Parts
 pub mod ReadBack
 pub mod Determined

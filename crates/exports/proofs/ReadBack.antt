@@ -15,8 +15,8 @@ use Rattle.shape.specs.Form.{patterns, pattern_tree}
 use Rattle.shape.specs.Number.{local_number}
 use Rattle.shape.specs.Check.{checked, unless_refused}
 use Rattle.shape.specs.Calls.{check_reply}
-use Rattle.shape.specs.declared.Outcome.{Outcome}
-use Rattle.shape.specs.declared.Outcome.TheVariants.{Done, Refused}
+use Rattle.shape.specs.Reply.{Outcome}
+use Rattle.std.specs.Prelude.{Ok, Err}
 use Rattle.pattern.specs.Calls.{head_part, later_check, later_of, later_part}
 use Rattle.pattern.proofs.Answers.{head_taken}
 use Rattle.exports.specs.Crossing.{head_told, later_told, from_start, read_from}
@@ -28,9 +28,9 @@ head_read n p q = by_check (checked patterns n p) (λ e. head_taken n p (checked
     h : List ℕ
     h = head (pattern_tree p)
 
-    by_check : (o : Outcome) → (o ≡ Done → take (length h) p ≡ h) → take (length (unless_refused o h [])) p ≡ unless_refused o h []
-    by_check Done taken = taken refl
-    by_check (Refused f) taken = refl
+    by_check : (o : Outcome) → (o ≡ Ok tt → take (length h) p ≡ h) → take (length (unless_refused o h [])) p ≡ unless_refused o h []
+    by_check (Ok _) taken = taken refl
+    by_check (Err f) taken = refl
 
 pub later_read : (n : ℕ) (p q : List ℕ) → read_from (later_told n p q) p q ≡ later_part n p q
 unfolding later_told later_of later_part
@@ -40,6 +40,6 @@ later_read n p q = by_check (later_check n p q) (ltb (local_number p) (local_num
     part o t = unless_refused o (unless_refused o (cond t q p) p) []
 
     by_check : (o : Outcome) (t : Bool) → read_from (from_start (unless_refused o (cond t 1 0) 0) (length (part o t))) p q ≡ part o t
-    by_check Done true = take_all (length q) q (le_refl (length q))
-    by_check Done false = take_all (length p) p (le_refl (length p))
-    by_check (Refused f) t = refl
+    by_check (Ok _) true = take_all (length q) q (le_refl (length q))
+    by_check (Ok _) false = take_all (length p) p (le_refl (length p))
+    by_check (Err f) t = refl

@@ -19,12 +19,9 @@ use mir.Val.{SFits, to_z, of_z}
 use mir.Facts.{to_z-of_z}
 use Rattle.shape.specs.Numbering.{Numbering}
 use Rattle.shape.specs.Move.{move_reply, move_end}
-use Rattle.shape.specs.Reply.{Reply, refusal_number, refused, outcome_reply, numbered_reply}
+use Rattle.shape.specs.Reply.{Reply, refusal_number, refused, outcome_reply, numbered_reply, Outcome, Numbered}
 use Rattle.shape.specs.declared.Refusal.{Refusal}
-use Rattle.shape.specs.declared.Outcome.{Outcome}
-use Rattle.shape.specs.declared.Outcome.TheVariants.{Done, Refused}
-use Rattle.shape.specs.declared.Numbered.{Numbered}
-use Rattle.shape.specs.declared.Numbered.TheVariants.{Value, Refused as NotNumbered}
+use Rattle.std.specs.Prelude.{Ok, Err}
 use Rattle.run.specs.declared.Progress.{Progress}
 use Rattle.run.specs.declared.Progress.TheVariants.{Handed, Done as AtEnd, Refused as Stopped}
 use Rattle.run.specs.declared.Run.{Run}
@@ -40,19 +37,19 @@ use Rattle.exports.specs.Crossing.{replied, start_told, step_told, fill_told}
 abbrev numbers : ℕ → ℕ → Crossed
 numbers f k = record { refusal = f; value = k }
 
-pub done_crosses : (x : Outcome) → x ≡ Done → numbers 0 0 ≡ replied (outcome_reply x)
+pub done_crosses : (x : Outcome) → x ≡ Ok tt → numbers 0 0 ≡ replied (outcome_reply x)
 unfolding replied
 done_crosses x e = rw e
 
-pub refused_crosses : (x : Outcome) (f : Refusal) (v : ℕ) → x ≡ Refused f → v ≡ refusal_number f → numbers v 0 ≡ replied (outcome_reply x)
+pub refused_crosses : (x : Outcome) (f : Refusal) (v : ℕ) → x ≡ Err f → v ≡ refusal_number f → numbers v 0 ≡ replied (outcome_reply x)
 unfolding replied
 refused_crosses x f v e g = rw (e, g)
 
-pub value_crosses : (x : Numbered) (k : ℕ) → x ≡ Value k → numbers 0 k ≡ replied (numbered_reply x)
+pub value_crosses : (x : Numbered) (k : ℕ) → x ≡ Ok k → numbers 0 k ≡ replied (numbered_reply x)
 unfolding replied
 value_crosses x k e = rw e
 
-pub unnumbered_crosses : (x : Numbered) (f : Refusal) (r : Crossed) → x ≡ NotNumbered f → r ≡ replied (refused f) → r ≡ replied (numbered_reply x)
+pub unnumbered_crosses : (x : Numbered) (f : Refusal) (r : Crossed) → x ≡ Err f → r ≡ replied (refused f) → r ≡ replied (numbered_reply x)
 unnumbered_crosses x f r e g = rw e g
 
 pub handed_crosses : (x : Progress) → x ≡ Handed → numbers 0 1 ≡ replied (progress_reply x)

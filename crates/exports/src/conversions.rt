@@ -11,7 +11,7 @@ pub extern "C" fn spire_to_permutation(size: usize, places: &[u8], entries: &mut
     ensures value { result ≡ replied (conversion_reply patterns permutations size places.now entries.old) }
     ensures entries_after { entries.new ≡ conversion_end patterns permutations size places.now entries.old }
 {
-    crate::outcome_reply(convert::to_permutation(size, places, entries))
+    Reply::from(convert::to_permutation(size, places, entries))
 }
 
 #[unsafe(no_mangle)]
@@ -19,5 +19,5 @@ pub extern "C" fn spire_to_pattern(size: usize, entries: &[u16], places: &mut [u
     ensures value { result ≡ replied (conversion_reply permutations patterns size entries.now places.old) }
     ensures places_after { places.new ≡ conversion_end permutations patterns size entries.now places.old }
 {
-    crate::outcome_reply(convert::to_pattern(size, entries, places))
+    Reply::from(convert::to_pattern(size, entries, places))
 }

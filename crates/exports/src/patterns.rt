@@ -8,7 +8,6 @@ ghost use Rattle.pattern.specs.Calls.{successor_change, predecessor_change, dept
 ghost use Rattle.exports.specs.Crossing.{replied, from_start, head_told, later_told};
 
 use crate::Reply;
-use shape::Outcome;
 
 // A part of a lent slice: of which one, 0 the first and 1 the second, from where, and how many places.
 #[repr(C)]
@@ -23,14 +22,14 @@ pub struct Part {
 pub extern "C" fn spire_pattern_check(size: usize, places: &[u8]) -> Reply
     ensures { result ≡ replied (check_reply patterns size places.now) }
 {
-    crate::outcome_reply(pattern::check(size, places))
+    Reply::from(pattern::check(size, places))
 }
 
 #[unsafe(no_mangle)]
 pub extern "C" fn spire_pattern_number(size: usize, places: &[u8]) -> Reply
     ensures { result ≡ replied (number_reply (local size) places.now) }
 {
-    crate::numbered_reply(pattern::number(size, places))
+    Reply::from(pattern::number(size, places))
 }
 
 #[unsafe(no_mangle)]
@@ -38,7 +37,7 @@ pub extern "C" fn spire_pattern_shape(size: usize, number: u64, places: &mut [u8
     ensures value { result ≡ replied (shape_reply (local size) number places.old) }
     ensures places_after { places.new ≡ shape_end (local size) number places.old }
 {
-    crate::outcome_reply(pattern::shape(size, number, places))
+    Reply::from(pattern::shape(size, number, places))
 }
 
 #[unsafe(no_mangle)]
@@ -46,7 +45,7 @@ pub extern "C" fn spire_pattern_successor(size: usize, places: &mut [u8]) -> Rep
     ensures value { result ≡ replied (successor_change size places.old) }
     ensures places_after { places.new ≡ successor_end (local size) places.old }
 {
-    crate::numbered_reply(pattern::successor(size, places))
+    Reply::from(pattern::successor(size, places))
 }
 
 #[unsafe(no_mangle)]
@@ -54,7 +53,7 @@ pub extern "C" fn spire_pattern_predecessor(size: usize, places: &mut [u8]) -> R
     ensures value { result ≡ replied (predecessor_change size places.old) }
     ensures places_after { places.new ≡ predecessor_end (local size) places.old }
 {
-    crate::numbered_reply(pattern::predecessor(size, places))
+    Reply::from(pattern::predecessor(size, places))
 }
 
 #[unsafe(no_mangle)]
@@ -62,17 +61,18 @@ pub extern "C" fn spire_pattern_move(size: usize, distance: i64, places: &mut [u
     ensures value { result ≡ replied (move_reply (local size) distance places.old) }
     ensures places_after { places.new ≡ move_end (local size) distance places.old }
 {
-    crate::outcome_reply(pattern::move_by(size, distance, places))
+    Reply::from(pattern::move_by(size, distance, places))
 }
 
 #[unsafe(no_mangle)]
 pub extern "C" fn spire_pattern_depth(size: usize, places: &[u8]) -> Reply
     ensures { result ≡ replied (depth_reply size places.now) }
 {
-    crate::numbered_reply(pattern::depth(size, places))
+    Reply::from(pattern::depth(size, places))
 }
 
 // The head begins where the slice begins, so its length tells all of it.
+#[tactic(auto, unfolding(crate::specs::Crossing::head_told))]
 #[unsafe(no_mangle)]
 pub extern "C" fn spire_pattern_head(size: usize, places: &[u8]) -> Part
     ensures { result ≡ head_told size places.now }
@@ -82,22 +82,18 @@ pub extern "C" fn spire_pattern_head(size: usize, places: &[u8]) -> Part
 }
 
 // A reference does not tell which slice it is a part of, so the checks and the comparison of `pattern::later` stand here once more.
+#[tactic(auto, using(pattern::proofs::Answers::answers, shape::proofs::Passing::passing), unfolding(crate::specs::Crossing::later_told, pattern::specs::Calls::later_part, pattern::specs::Calls::later_of, pattern::specs::Calls::later_check, shape::specs::Calls::check_reply))]
 #[unsafe(no_mangle)]
 pub extern "C" fn spire_pattern_later(size: usize, first: &[u8], second: &[u8]) -> Part
     ensures { result ≡ later_told size first.now second.now }
 {
-    match pattern::check(size, first) {
-        Outcome::Refused(_) => from_start(0, 0),
-        Outcome::Done => match pattern::check(size, second) {
-            Outcome::Refused(_) => from_start(0, 0),
-            Outcome::Done => {
-                if local::before(size, first, second) {
-                    return from_start(1, second.len());
-                }
-                from_start(0, first.len())
-            }
-        },
+    if pattern::check(size, first).is_err() || pattern::check(size, second).is_err() {
+        return from_start(0, 0);
     }
+    if local::before(size, first, second) {
+        return from_start(1, second.len());
+    }
+    from_start(0, first.len())
 }
 
 fn from_start(slice: usize, length: usize) -> Part

@@ -13,14 +13,14 @@ use crate::Reply;
 pub extern "C" fn spire_permutation_check(size: usize, entries: &[u16]) -> Reply
     ensures { result ≡ replied (check_reply permutations size entries.now) }
 {
-    crate::outcome_reply(permutation::check(size, entries))
+    Reply::from(permutation::check(size, entries))
 }
 
 #[unsafe(no_mangle)]
 pub extern "C" fn spire_permutation_number(size: usize, entries: &[u16]) -> Reply
     ensures { result ≡ replied (number_reply (natural size) entries.now) }
 {
-    crate::numbered_reply(permutation::number(size, entries))
+    Reply::from(permutation::number(size, entries))
 }
 
 #[unsafe(no_mangle)]
@@ -28,7 +28,7 @@ pub extern "C" fn spire_permutation_shape(size: usize, number: u64, entries: &mu
     ensures value { result ≡ replied (shape_reply (natural size) number entries.old) }
     ensures entries_after { entries.new ≡ shape_end (natural size) number entries.old }
 {
-    crate::outcome_reply(permutation::shape(size, number, entries))
+    Reply::from(permutation::shape(size, number, entries))
 }
 
 #[unsafe(no_mangle)]
@@ -36,7 +36,7 @@ pub extern "C" fn spire_permutation_successor(size: usize, entries: &mut [u16]) 
     ensures value { result ≡ replied (successor_reply (natural size) entries.old) }
     ensures entries_after { entries.new ≡ successor_end (natural size) entries.old }
 {
-    crate::outcome_reply(permutation::successor(size, entries))
+    Reply::from(permutation::successor(size, entries))
 }
 
 #[unsafe(no_mangle)]
@@ -44,7 +44,7 @@ pub extern "C" fn spire_permutation_predecessor(size: usize, entries: &mut [u16]
     ensures value { result ≡ replied (predecessor_reply (natural size) entries.old) }
     ensures entries_after { entries.new ≡ predecessor_end (natural size) entries.old }
 {
-    crate::outcome_reply(permutation::predecessor(size, entries))
+    Reply::from(permutation::predecessor(size, entries))
 }
 
 #[unsafe(no_mangle)]
@@ -52,5 +52,5 @@ pub extern "C" fn spire_permutation_move(size: usize, distance: i64, entries: &m
     ensures value { result ≡ replied (move_reply (natural size) distance entries.old) }
     ensures entries_after { entries.new ≡ move_end (natural size) distance entries.old }
 {
-    crate::outcome_reply(permutation::move_by(size, distance, entries))
+    Reply::from(permutation::move_by(size, distance, entries))
 }

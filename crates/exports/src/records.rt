@@ -10,7 +10,7 @@ pub extern "C" fn spire_record_write(size: usize, places: &[u8], bytes: &mut [u8
     ensures value { result ≡ replied (write_reply size places.now bytes.old) }
     ensures bytes_after { bytes.new ≡ write_end size places.now bytes.old }
 {
-    crate::outcome_reply(record::write(size, places, bytes))
+    Reply::from(record::write(size, places, bytes))
 }
 
 #[unsafe(no_mangle)]
@@ -18,5 +18,5 @@ pub extern "C" fn spire_record_read(bytes: &[u8], places: &mut [u8]) -> Reply
     ensures value { result ≡ replied (read_reply bytes.now places.old) }
     ensures places_after { places.new ≡ read_end bytes.now places.old }
 {
-    crate::numbered_reply(record::read(bytes, places))
+    Reply::from(record::read(bytes, places))
 }

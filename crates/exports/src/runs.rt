@@ -1,12 +1,10 @@
-// The calls on runs. A run's state is the same struct on both sides; the answers have numbers where those of the calls have an enum. A field
-// that is no number is copied out before it is passed on, since the kit covers no passing of a part of a struct.
+// The calls on runs. A run's state is the same struct on both sides; the answers have numbers where those of the calls have an enum.
 ghost use Rattle.std.specs.Prelude.{◌≡◌};
 ghost use Rattle.run.specs.Calls.{progress_reply};
 ghost use Rattle.exports.specs.Crossing.{replied, start_told, step_told};
 
 use crate::Reply;
 use run::{Progress, Run};
-use shape::Outcome;
 
 #[repr(C)]
 #[derive(Clone, Copy)]
@@ -31,11 +29,9 @@ pub extern "C" fn spire_run_start(size: usize, first: u64, end: u64) -> Started
     ensures { result ≡ start_told size first end }
 {
     let started = Run::start(size, first, end);
-    let outcome = started.outcome;
-    let run = started.run;
     Started {
-        refusal: crate::outcome_reply(outcome).refusal,
-        run,
+        refusal: Reply::from(started.outcome).refusal,
+        run: started.run,
     }
 }
 
@@ -44,31 +40,31 @@ pub extern "C" fn spire_run_step(run: Run) -> Stepped
     ensures { result ≡ step_told run }
 {
     let stepped = run.step();
-    let progress = stepped.progress;
-    let reply = progress_reply(progress);
-    let run = stepped.run;
+    let reply = Reply::from(stepped.progress);
     let places = stepped.places;
     Stepped {
         refusal: reply.refusal,
         handed: reply.value,
-        run,
+        run: stepped.run,
         places,
         change: stepped.change,
     }
 }
 
-fn progress_reply(progress: Progress) -> Reply
-    ensures { result ≡ replied (progress_reply progress) }
-{
-    match progress {
-        Progress::Handed => Reply {
-            refusal: 0,
-            value: 1,
-        },
-        Progress::Done => Reply {
-            refusal: 0,
-            value: 0,
-        },
-        Progress::Refused(refusal) => crate::outcome_reply(Outcome::Refused(refusal)),
+impl From<Progress> for Reply {
+    ghost from_gives = { λ progress reply. reply ≡ replied (progress_reply progress) };
+
+    fn from(progress: Progress) -> Reply {
+        match progress {
+            Progress::Handed => Reply {
+                refusal: 0,
+                value: 1,
+            },
+            Progress::Done => Reply {
+                refusal: 0,
+                value: 0,
+            },
+            Progress::Refused(refusal) => Reply::from(refusal),
+        }
     }
 }

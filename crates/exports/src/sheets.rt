@@ -3,6 +3,7 @@ ghost use Rattle.std.specs.Prelude.{◌≡◌, length};
 ghost use Rattle.lines.specs.Calls.{open_sheet, fill_end};
 ghost use Rattle.exports.specs.Crossing.{fill_told};
 
+use crate::Reply;
 use lines::Sheet;
 
 #[repr(C)]
@@ -26,12 +27,10 @@ pub extern "C" fn spire_sheet_fill(sheet: Sheet, out: &mut [u8]) -> Filled
     ensures out_after { out.new ≡ fill_end sheet out.old }
 {
     let filled = sheet.fill(out);
-    let bytes = filled.bytes;
-    let reply = crate::numbered_reply(bytes);
-    let sheet = filled.sheet;
+    let reply = Reply::from(filled.bytes);
     Filled {
         refusal: reply.refusal,
         bytes: reply.value,
-        sheet,
+        sheet: filled.sheet,
     }
 }

@@ -17,10 +17,9 @@ use lib.Seq.{length-take-le, take-append-add, take-append_seam}
 use mir.Syntax.{w64}
 use mir.Val.{Fits}
 use borrow.Rule.Slice.PartMut.{put_mid, post_of, same_len_mid, take_put}
-use Rattle.shape.specs.Reply.{Reply, numbered_reply}
-use Rattle.shape.specs.declared.Numbered.{Numbered}
-use Rattle.shape.specs.declared.Outcome.{Outcome}
-use Rattle.shape.specs.declared.Outcome.TheVariants.{Done, Refused}
+use Rattle.shape.specs.Reply.{Reply, numbered_reply, Numbered, Outcome}
+use Rattle.std.specs.Prelude.{Ok, Err}
+use Rattle.std.specs.Result.{result_unwrap_or}
 use Rattle.text.specs.Text.{line_room}
 use Rattle.lines.specs.declared.Sheet.{Sheet}
 use Rattle.lines.specs.Calls.{fill_check, piece_text, fill_reply, fill_sheet, fill_end}
@@ -31,14 +30,14 @@ use Rattle.sheet.proofs.Batches.{piece, handed_none, handed_one, handed_then}
 
 piece_length : (o : Outcome) (s : Sheet) (room : ℕ) → fill_check s room ≡ o → (fill_reply s room).value ≡ length (piece s room)
 unfolding fill_reply
-piece_length Done s room e = rw e
-piece_length (Refused f) s room e = rw e
+piece_length (Ok _) s room e = rw e
+piece_length (Err f) s room e = rw e
 
 piece_put : (o : Outcome) (s : Sheet) (out : List ℕ) → fill_check s (length out) ≡ o
     → fill_end s out ≡ piece s (length out) ++ drop (length (piece s (length out))) out
 unfolding fill_end
-piece_put Done s out e = rw (e, zero-add (length (piece_text s (length out))))
-piece_put (Refused f) s out e = rw e
+piece_put (Ok _) s out e = rw (e, zero-add (length (piece_text s (length out))))
+piece_put (Err f) s out e = rw e
 
 -- before: the buffer as it was lent; left: the sheet as it stands
 pub record Collected (s : Sheet) (before buffer : List ℕ) (left : Sheet) (at : ℕ) : Type 0 where
@@ -77,10 +76,14 @@ module _ (s : Sheet) (before buffer : List ℕ) (left : Sheet) (at : ℕ) (m : C
   full_batch full none room = let same = m.same in absurd (omega arith)
 
   -- what a piece answers, in its own words and in the program's
-  module _ (bytes : ℕ) (reply : Numbered) (told : bytes ≡ (numbered_reply reply).value)
+  module _ (bytes : ℕ) (reply : Numbered) (told : bytes ≡ result_unwrap_or reply 0)
       (answer : numbered_reply reply ≡ fill_reply left (length part)) where
     bytes_reply : bytes ≡ (fill_reply left (length part)).value
-    bytes_reply = told ∙ ap (λ (r : Reply). r.value) answer
+    bytes_reply = told ∙ by_answer reply ∙ ap (λ (r : Reply). r.value) answer
+      where
+        by_answer : (r : Numbered) → result_unwrap_or r 0 ≡ (numbered_reply r).value
+        by_answer (Ok k) = refl
+        by_answer (Err f) = refl
 
     pub none_more : bytes ≡ 0 → at ≡ 0 → Silent s (length before)
     none_more nothing none room =
@@ -147,3 +150,5 @@ module _ (s : Sheet) (before buffer : List ℕ) (left : Sheet) (at : ℕ) (m : C
             start = λ e. absurd (some (omega arith));
             batch = rw moved (next_handed room);
           }
+
+pub ruleset collecting = (none_collected, in_use, handed_still, full_batch, none_more, bytes_fit, next_falls, next_collected)

@@ -12,8 +12,8 @@ use lib.ListN.{length, take, replicate, length-append, length-replicate}
 use lib.Seq.{take_all, length-take-le}
 use borrow.Author.Tests.{eq-eqb, ne_eqb}
 use Rattle.shape.specs.Every.{All}
-use Rattle.shape.specs.declared.Outcome.{Outcome}
-use Rattle.shape.specs.declared.Outcome.TheVariants.{Done, Refused}
+use Rattle.shape.specs.Reply.{Outcome}
+use Rattle.std.specs.Prelude.{Ok, Err}
 use Rattle.shape.proofs.Lists.{all_append}
 use Rattle.run.proofs.States.{step_handed}
 use Rattle.text.specs.Text.{decimal, line, run_line, shape_text, shape_line, shape_lines, end_line, no_line, line_room}
@@ -116,7 +116,7 @@ none [] e = refl
 none (x ∷ text) e = absurd (omega (arith, e))
 
 module _ (s : Sheet) (room : ℕ) where
-  ended_still : (b : Bool) → s.ended ≡ b → fill_check s room ≡ Done → length (piece_text s room) ≡ 0 → piece_sheet s room ≡ s
+  ended_still : (b : Bool) → s.ended ≡ b → fill_check s room ≡ Ok tt → length (piece_text s room) ≡ 0 → piece_sheet s room ≡ s
   unfolding piece_sheet
   ended_still true e check still = rw e
   ended_still false e check still =
@@ -125,8 +125,8 @@ module _ (s : Sheet) (room : ℕ) where
 
   still : (o : Outcome) → fill_check s room ≡ o → (fill_reply s room).value ≡ 0 → (piece s room ≡ []) × (fill_sheet s room ≡ s)
   unfolding fill_reply fill_sheet
-  still Done e = rw e (λ nothing. (none _ nothing, ended_still s.ended refl e nothing))
-  still (Refused f) e = rw e (λ nothing. (refl, refl))
+  still (Ok _) e = rw e (λ nothing. (none _ nothing, ended_still s.ended refl e nothing))
+  still (Err f) e = rw e (λ nothing. (refl, refl))
 
   silent_pieces : (fill_reply s room).value ≡ 0 → (m : ℕ) → pieces_from (replicate m room) s ≡ []
   unfolding pieces_from

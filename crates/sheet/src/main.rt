@@ -3,14 +3,12 @@
 #![tactic(auto)]
 
 ghost use Rattle.std.specs.Prelude.{◌≡◌, ◌≤◌, ◌<◌, length, take};
-ghost use Rattle.shape.specs.Reply.{numbered_reply};
 ghost use Rattle.lines.specs.Handing.{lines_left};
 ghost use Rattle.sheet.specs.Batch.{Handed, Silent};
 
 use lines::Sheet;
-use shape::Numbered;
 
-// The file descriptors of standard input and output.
+// The file descriptors of standard input and output, which `vectors` has too: the program does not stand on a crate of cases.
 const STDIN_FILENO: i32 = 0;
 
 const STDOUT_FILENO: i32 = 1;
@@ -30,11 +28,7 @@ fn print(sheet: Sheet) {
     let mut left = sheet;
     loop {
         let batch = collect(left, buffer);
-        let bytes = batch.bytes;
-        if bytes == 0 {
-            return;
-        }
-        if !io::write_all(STDOUT_FILENO, &buffer[0..bytes]) {
+        if batch.bytes == 0 || !io::write_all(STDOUT_FILENO, &buffer[..batch.bytes]) {
             return;
         }
         left = batch.sheet;
@@ -49,6 +43,7 @@ struct Batch {
 }
 
 // The sheet's next pieces, one behind the other, for as long as there is room for a line of any length.
+#[tactic(auto, using(crate::proofs::Collecting::collecting))]
 fn collect(sheet: Sheet, buffer: &mut [u8]) -> Batch
     ensures bytes_in_bounds { result.bytes ≤ length buffer.new }
     ensures sheet_bound { 0 < result.bytes → lines_left result.sheet < lines_left sheet }
@@ -59,13 +54,9 @@ fn collect(sheet: Sheet, buffer: &mut [u8]) -> Batch
     let mut at = 0;
     while buffer.len() - at >= 256 {
         let filled = left.fill(&mut buffer[at..]);
-        let reply = filled.bytes;
-        let bytes = bytes_of(reply);
+        let bytes = filled.bytes.unwrap_or(0) as usize;
         if bytes == 0 {
-            return Batch {
-                bytes: at,
-                sheet: left,
-            };
+            break;
         }
         left = filled.sheet;
         at += bytes;
@@ -73,14 +64,5 @@ fn collect(sheet: Sheet, buffer: &mut [u8]) -> Batch
     Batch {
         bytes: at,
         sheet: left,
-    }
-}
-
-fn bytes_of(reply: Numbered) -> usize
-    ensures { result ≡ (numbered_reply reply).value }
-{
-    match reply {
-        Numbered::Value(bytes) => bytes as usize,
-        Numbered::Refused(_) => 0,
     }
 }
