@@ -15,82 +15,25 @@
 #![tactic(auto)]
 
 mod asked;
+mod form;
 mod listed;
 
-use listed::Order;
-use vectors::{STDIN_FILENO, STDOUT_FILENO};
-
-// Where the names stand in the list of `line`.
-const HEADING: usize = 0;
-
-const PATTERNS: usize = 1;
-
-const PERMUTATIONS: usize = 2;
-
-const PATTERN: usize = 3;
-
-const PERMUTATION: usize = 4;
-
-const PATTERN_CHAIN: usize = 5;
-
-const PERMUTATION_CHAIN: usize = 6;
+use vectors::Fields;
 
 fn main() {
-    let mut input = io::large_buffer();
-    let count = io::read_full(STDIN_FILENO, &mut input);
-    each(&input[..count]);
-    if count == 65536 {
-        io::write_all(STDOUT_FILENO, b"WRONG, more lines than there is room for\n");
-    }
+    vectors::run(case);
 }
 
-// Line by line.
-fn each(text: &[u8]) {
-    let mut start = 0;
-    while start < text.len() {
-        let end = vectors::end_of(text, start, b'\n');
-        line(&text[start..end]);
-        vectors::end_line();
-        if end == text.len() {
-            return;
-        }
-        start = end + 1;
+fn case(kind: &[u8], fields: Fields) {
+    let mut places = [0u8; 72];
+    let mut entries = [0u16; 36];
+    match kind {
+        b"patterns" => listed::whole(fields, &mut places),
+        b"permutations" => listed::whole(fields, &mut entries),
+        b"pattern" => asked::one(fields, &mut places),
+        b"permutation" => asked::one(fields, &mut entries),
+        b"pattern_chain" => asked::chain(fields, &mut places),
+        b"permutation_chain" => asked::chain(fields, &mut entries),
+        _ => vectors::word(b"WRONG, no such case"),
     }
-}
-
-fn line(line: &[u8]) {
-    io::write_all(STDOUT_FILENO, line);
-    let kind = vectors::kind(
-        line,
-        b"# patterns permutations pattern permutation pattern_chain permutation_chain",
-    );
-    if kind == HEADING {
-        return;
-    }
-    vectors::word(b":");
-    if kind == PATTERNS {
-        listed::whole(line, Order::Local);
-        return;
-    }
-    if kind == PERMUTATIONS {
-        listed::whole(line, Order::Natural);
-        return;
-    }
-    if kind == PATTERN {
-        asked::places(line);
-        return;
-    }
-    if kind == PERMUTATION {
-        asked::entries(line);
-        return;
-    }
-    if kind == PATTERN_CHAIN {
-        asked::places_chain(line);
-        return;
-    }
-    if kind == PERMUTATION_CHAIN {
-        asked::entries_chain(line);
-        return;
-    }
-    vectors::word(b"WRONG, no such case");
 }

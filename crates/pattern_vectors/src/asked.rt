@@ -1,83 +1,54 @@
 // The cases that ask one call.
 use crate::through;
+use vectors::{Fields, Way};
 
-pub(crate) fn shape(line: &[u8]) {
-    let size = vectors::number(line, 1) as usize;
-    let number = vectors::number(line, 2);
-    let room = vectors::number(line, 3) as usize;
-    let refusal = vectors::number(line, 4);
-    made(size, number, room, refusal, vectors::field(line, 5));
+pub(crate) fn shape(mut fields: Fields) {
+    let size = fields.size();
+    let number = fields.number();
+    let room = fields.size();
+    let refusal = fields.refusal();
+    made(size, number, room, refusal, fields.text());
 }
 
 // A slice that is only written may hold anything before: 255 here.
-pub(crate) fn made(size: usize, number: u64, room: usize, refusal: u64, text: &[u8]) {
+pub(crate) fn made(size: usize, number: u64, room: usize, refusal: Result<(), u64>, text: &[u8]) {
     let mut space = [255u8; 72];
-    if room > 72 {
+    let Some(places) = space.get_mut(..room) else {
         vectors::word(b"WRONG, too many places");
         return;
-    }
-    let places = &mut space[0..room];
-    vectors::outcome(
-        vectors::SHAPE,
-        pattern::shape(size, number, places),
-        refusal,
-    );
-    vectors::holds(vectors::IS, places, text);
+    };
+    vectors::outcome(b"shape", pattern::shape(size, number, places), refusal);
+    vectors::holds(b"is", places, text);
 }
 
-pub(crate) fn later(line: &[u8]) {
-    let size = vectors::number(line, 1) as usize;
-    let mut one = [0u8; 72];
-    let mut two = [0u8; 72];
-    let a = vectors::read(vectors::field(line, 2), &mut one);
-    let b = vectors::read(vectors::field(line, 3), &mut two);
-    let later = pattern::later(size, &one[0..a], &two[0..b]);
-    vectors::holds(vectors::LATER, later, vectors::field(line, 4));
+pub(crate) fn later(mut fields: Fields) {
+    let mut first = [0u8; 72];
+    let mut second = [0u8; 72];
+    let size = fields.size();
+    let first = vectors::read(fields.text(), &mut first);
+    let second = vectors::read(fields.text(), &mut second);
+    let later = pattern::later(size, first, second);
+    vectors::holds(b"later", later, fields.text());
 }
 
-// The held pattern stepped on or back to the one listed.
-pub(crate) fn step(line: &[u8], held: &mut [u8], is_on: bool) {
-    let text = vectors::field(line, 1);
-    let count = text.len();
-    if count > held.len() {
+// The held pattern stepped to the one listed.
+pub(crate) fn step(mut fields: Fields, held: &mut [u8], way: Way) {
+    let text = fields.text();
+    let change = fields.number();
+    let Some(places) = held.get_mut(..text.len()) else {
         vectors::word(b"WRONG, too many places");
         return;
-    }
-    let places = &mut held[0..count];
-    let size = count / 2;
-    let change = vectors::number(line, 2);
-    let number = vectors::number_of(pattern::number(size, places));
-    if is_on {
-        through::on(
-            size,
-            places,
-            0,
-            change,
-            std::num::wrapping_add_u64(number, 1),
-        );
-        vectors::holds(vectors::IS, places, text);
-        return;
-    }
-    through::back(
-        size,
-        places,
-        0,
-        change,
-        std::num::wrapping_sub_u64(number, 1),
-    );
-    vectors::holds(vectors::IS, places, text);
+    };
+    let size = text.len() / 2;
+    let number = pattern::number(size, places).unwrap_or(0);
+    through::step(way, size, places, Ok(change), way.from(number));
+    vectors::holds(b"is", places, text);
 }
 
 // 000 lists from the last pattern to the first, and ranks from 1.
-pub(crate) fn rank(line: &[u8], held: &mut [u8]) {
-    let size = vectors::number(line, 1) as usize;
-    let rank = vectors::number(line, 3);
-    let number = std::num::wrapping_sub_u64(catalan::catalan(size), rank);
-    let count = vectors::read(vectors::field(line, 2), held);
-    vectors::value(
-        vectors::NUMBER,
-        pattern::number(size, &held[..count]),
-        0,
-        number,
-    );
+pub(crate) fn rank(mut fields: Fields, held: &mut [u8]) {
+    let size = fields.size();
+    let places = vectors::read(fields.text(), held);
+    let number = catalan::catalan(size).wrapping_sub(fields.number());
+    vectors::value(b"number", pattern::number(size, places), Ok(number));
 }

@@ -15,83 +15,23 @@
 mod asked;
 mod through;
 
-use vectors::{STDIN_FILENO, STDOUT_FILENO};
-
-// Where the names stand in the list of `line`.
-const HEADING: usize = 0;
-
-const PATTERN: usize = 1;
-
-const REFUSED: usize = 2;
-
-const SHAPE: usize = 3;
-
-const LATER: usize = 4;
-
-const ON: usize = 5;
-
-const BACK: usize = 6;
-
-const RANK: usize = 7;
+use vectors::{Fields, Way};
 
 fn main() {
-    let mut input = io::large_buffer();
     let mut held = [0u8; 72];
-    let count = io::read_full(STDIN_FILENO, &mut input);
-    each(&input[..count], &mut held);
-    if count == 65536 {
-        io::write_all(STDOUT_FILENO, b"WRONG, more lines than there is room for\n");
-    }
+    vectors::run(|kind, fields| case(kind, fields, &mut held));
 }
 
-// Line by line; `held` keeps the pattern that the next line may step from.
-fn each(text: &[u8], held: &mut [u8]) {
-    let mut start = 0;
-    while start < text.len() {
-        let end = vectors::end_of(text, start, b'\n');
-        line(&text[start..end], held);
-        vectors::end_line();
-        if end == text.len() {
-            return;
-        }
-        start = end + 1;
+// `held` keeps the pattern that the next line may step from.
+fn case(kind: &[u8], fields: Fields, held: &mut [u8]) {
+    match kind {
+        b"pattern" => through::accepted(fields, held),
+        b"refused" => through::refused(fields, held),
+        b"shape" => asked::shape(fields),
+        b"later" => asked::later(fields),
+        b"on" => asked::step(fields, held, Way::On),
+        b"back" => asked::step(fields, held, Way::Back),
+        b"rank" => asked::rank(fields, held),
+        _ => vectors::word(b"WRONG, no such case"),
     }
-}
-
-fn line(line: &[u8], held: &mut [u8]) {
-    io::write_all(STDOUT_FILENO, line);
-    let kind = vectors::kind(line, b"# pattern refused shape later on back rank");
-    if kind == HEADING {
-        return;
-    }
-    vectors::word(b":");
-    if kind == PATTERN {
-        through::accepted(line, held);
-        return;
-    }
-    if kind == REFUSED {
-        through::refused(line, held);
-        return;
-    }
-    if kind == SHAPE {
-        asked::shape(line);
-        return;
-    }
-    if kind == LATER {
-        asked::later(line);
-        return;
-    }
-    if kind == ON {
-        asked::step(line, held, true);
-        return;
-    }
-    if kind == BACK {
-        asked::step(line, held, false);
-        return;
-    }
-    if kind == RANK {
-        asked::rank(line, held);
-        return;
-    }
-    vectors::word(b"WRONG, no such case");
 }

@@ -1,98 +1,93 @@
 // The cases that ask one call. A slice that is only written may hold anything before: the largest value here.
 use crate::through;
+use vectors::{Fields, Way};
 
-pub(crate) fn shape(line: &[u8]) {
-    let size = vectors::number(line, 1) as usize;
-    let number = vectors::number(line, 2);
-    let room = vectors::number(line, 3) as usize;
-    let refusal = vectors::number(line, 4);
-    made(size, number, room, refusal, vectors::field(line, 5));
+pub(crate) fn shape(mut fields: Fields) {
+    let size = fields.size();
+    let number = fields.number();
+    let room = fields.size();
+    let refusal = fields.refusal();
+    made(size, number, room, refusal, fields.text());
 }
 
-pub(crate) fn made(size: usize, number: u64, room: usize, refusal: u64, text: &[u8]) {
+pub(crate) fn made(size: usize, number: u64, room: usize, refusal: Result<(), u64>, text: &[u8]) {
     let mut space = [65535u16; 36];
-    if room > 36 {
+    let Some(entries) = space.get_mut(..room) else {
         vectors::word(b"WRONG, too many entries");
         return;
-    }
-    let entries = &mut space[0..room];
-    vectors::outcome(
-        vectors::SHAPE,
-        permutation::shape(size, number, entries),
-        refusal,
-    );
-    vectors::holds_entries(vectors::IS, entries, text);
+    };
+    vectors::outcome(b"shape", permutation::shape(size, number, entries), refusal);
+    vectors::holds(b"is", entries, text);
 }
 
-// The held permutation stepped on or back to the one listed.
-pub(crate) fn step(line: &[u8], held: &mut [u16], is_on: bool) {
-    let text = vectors::field(line, 1);
+// The held permutation stepped to the one listed.
+pub(crate) fn step(mut fields: Fields, held: &mut [u16], way: Way) {
     let mut listed = [0u16; 36];
-    let size = vectors::read_entries(text, &mut listed);
-    if size > held.len() {
+    let text = fields.text();
+    let size = vectors::read(text, &mut listed).len();
+    let Some(entries) = held.get_mut(..size) else {
         vectors::word(b"WRONG, too many entries");
         return;
-    }
-    let entries = &mut held[0..size];
-    let number = vectors::number_of(permutation::number(size, entries));
-    if is_on {
-        through::on(size, entries, 0, std::num::wrapping_add_u64(number, 1));
-        vectors::holds_entries(vectors::IS, entries, text);
-        return;
-    }
-    through::back(size, entries, 0, std::num::wrapping_sub_u64(number, 1));
-    vectors::holds_entries(vectors::IS, entries, text);
+    };
+    let number = permutation::number(size, entries).unwrap_or(0);
+    through::step(way, size, entries, Ok(()), way.from(number));
+    vectors::holds(b"is", entries, text);
 }
 
-pub(crate) fn to_pattern(line: &[u8], held: &mut [u16]) {
-    let size = vectors::number(line, 1) as usize;
-    let count = vectors::read_entries(vectors::field(line, 2), held);
-    let room = vectors::number(line, 3) as usize;
-    let refusal = vectors::number(line, 4);
-    as_places(size, &held[..count], room, refusal, vectors::field(line, 5));
+pub(crate) fn to_pattern(mut fields: Fields, held: &mut [u16]) {
+    let size = fields.size();
+    let entries = vectors::read(fields.text(), held);
+    let room = fields.size();
+    let refusal = fields.refusal();
+    as_places(size, entries, room, refusal, fields.text());
 }
 
-pub(crate) fn as_places(size: usize, entries: &[u16], room: usize, refusal: u64, text: &[u8]) {
+pub(crate) fn as_places(
+    size: usize,
+    entries: &[u16],
+    room: usize,
+    refusal: Result<(), u64>,
+    text: &[u8],
+) {
     let mut space = [255u8; 72];
-    if room > 72 {
+    let Some(places) = space.get_mut(..room) else {
         vectors::word(b"WRONG, too many places");
         return;
-    }
-    let places = &mut space[0..room];
+    };
     vectors::outcome(
-        vectors::TO_PATTERN,
+        b"to_pattern",
         convert::to_pattern(size, entries, places),
         refusal,
     );
-    vectors::holds(vectors::IS, places, text);
+    vectors::holds(b"is", places, text);
 }
 
-pub(crate) fn to_permutation(line: &[u8]) {
-    let size = vectors::number(line, 1) as usize;
-    let room = vectors::number(line, 3) as usize;
-    let refusal = vectors::number(line, 4);
-    as_entries(
-        size,
-        vectors::field(line, 2),
-        room,
-        refusal,
-        vectors::field(line, 5),
-    );
+pub(crate) fn to_permutation(mut fields: Fields) {
+    let size = fields.size();
+    let pattern = fields.text();
+    let room = fields.size();
+    let refusal = fields.refusal();
+    as_entries(size, pattern, room, refusal, fields.text());
 }
 
-pub(crate) fn as_entries(size: usize, pattern: &[u8], room: usize, refusal: u64, text: &[u8]) {
+pub(crate) fn as_entries(
+    size: usize,
+    pattern: &[u8],
+    room: usize,
+    refusal: Result<(), u64>,
+    text: &[u8],
+) {
     let mut places = [0u8; 72];
     let mut space = [65535u16; 36];
-    let count = vectors::read(pattern, &mut places);
-    if room > 36 {
+    let places = vectors::read(pattern, &mut places);
+    let Some(entries) = space.get_mut(..room) else {
         vectors::word(b"WRONG, too many entries");
         return;
-    }
-    let entries = &mut space[0..room];
+    };
     vectors::outcome(
-        vectors::TO_PERMUTATION,
-        convert::to_permutation(size, &places[..count], entries),
+        b"to_permutation",
+        convert::to_permutation(size, places, entries),
         refusal,
     );
-    vectors::holds_entries(vectors::IS, entries, text);
+    vectors::holds(b"is", entries, text);
 }

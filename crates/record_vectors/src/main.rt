@@ -10,65 +10,21 @@
 #![tactic(auto)]
 
 mod asked;
+mod bytes;
 mod through;
 
-use vectors::{STDIN_FILENO, STDOUT_FILENO};
-
-// Where the names stand in the list of `line`.
-const HEADING: usize = 0;
-
-const WRITE: usize = 1;
-
-const READ: usize = 2;
-
-const PATTERN: usize = 3;
-
-const RECORD: usize = 4;
+use vectors::Fields;
 
 fn main() {
-    let mut input = io::large_buffer();
-    let count = io::read_full(STDIN_FILENO, &mut input);
-    each(&input[..count]);
-    if count == 65536 {
-        io::write_all(STDOUT_FILENO, b"WRONG, more lines than there is room for\n");
-    }
+    vectors::run(case);
 }
 
-fn each(text: &[u8]) {
-    let mut start = 0;
-    while start < text.len() {
-        let end = vectors::end_of(text, start, b'\n');
-        line(&text[start..end]);
-        vectors::end_line();
-        if end == text.len() {
-            return;
-        }
-        start = end + 1;
+fn case(kind: &[u8], fields: Fields) {
+    match kind {
+        b"write" => asked::write(fields),
+        b"read" => asked::read(fields),
+        b"pattern" => through::pattern(fields),
+        b"record" => through::record(fields),
+        _ => vectors::word(b"WRONG, no such case"),
     }
-}
-
-fn line(line: &[u8]) {
-    io::write_all(STDOUT_FILENO, line);
-    let kind = vectors::kind(line, b"# write read pattern record");
-    if kind == HEADING {
-        return;
-    }
-    vectors::word(b":");
-    if kind == WRITE {
-        asked::write(line);
-        return;
-    }
-    if kind == READ {
-        asked::read(line);
-        return;
-    }
-    if kind == PATTERN {
-        through::pattern(line);
-        return;
-    }
-    if kind == RECORD {
-        through::record(line);
-        return;
-    }
-    vectors::word(b"WRONG, no such case");
 }

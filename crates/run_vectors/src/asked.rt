@@ -1,30 +1,28 @@
 // The cases that ask one call.
-use crate::state;
+use crate::state::{self, State};
 use run::Run;
+use vectors::Fields;
 
-pub(crate) fn start(line: &[u8]) {
-    let size = vectors::number(line, 1) as usize;
-    let first = vectors::number(line, 2);
-    let end = vectors::number(line, 3);
+pub(crate) fn start(mut fields: Fields) {
+    let size = fields.size();
+    let first = fields.number();
+    let end = fields.number();
     let started = Run::start(size, first, end);
-    let outcome = started.outcome;
-    vectors::outcome(vectors::START, outcome, vectors::number(line, 4));
-    state::shows(started.run, vectors::rest(line, 5));
+    vectors::outcome(b"start", started.outcome, fields.refusal());
+    state::is(started.run, State::of(&mut fields));
 }
 
 // A step that hands out a shape.
-pub(crate) fn handed(line: &[u8]) {
-    let stepped = state::read(vectors::rest(line, 1)).step();
-    let text = vectors::field(line, 6);
-    let change = vectors::number(line, 7);
-    let left = state::after(stepped, 0, 1, text, change);
-    state::shows(left, vectors::rest(line, 8));
+pub(crate) fn handed(mut fields: Fields) {
+    let stepped = State::of(&mut fields).run().step();
+    let text = fields.text();
+    let left = state::after(stepped, Ok(1), text, fields.number());
+    state::is(left, State::of(&mut fields));
 }
 
-// A step that hands out none, with that refusal, or where that is 0, since none is left.
-pub(crate) fn stays(line: &[u8], refusal: u64) {
-    let text = vectors::rest(line, 1);
-    let stepped = state::read(text).step();
-    let left = state::after(stepped, refusal, 0, b"-", 0);
-    state::shows(left, text);
+// A step that hands out none, with that refusal, or since none is left.
+pub(crate) fn stays(mut fields: Fields, expected: Result<u64, u64>) {
+    let state = State::of(&mut fields);
+    let left = state::after(state.run().step(), expected, b"-", 0);
+    state::is(left, state);
 }

@@ -16,76 +16,20 @@ mod asked;
 mod state;
 mod through;
 
-use vectors::{STDIN_FILENO, STDOUT_FILENO};
-
-// Where the names stand in the list of `line`.
-const HEADING: usize = 0;
-
-const START: usize = 1;
-
-const HANDED: usize = 2;
-
-const DONE: usize = 3;
-
-const REFUSED: usize = 4;
-
-const RUN: usize = 5;
-
-const CUTS: usize = 6;
+use vectors::Fields;
 
 fn main() {
-    let mut input = io::large_buffer();
-    let count = io::read_full(STDIN_FILENO, &mut input);
-    each(&input[..count]);
-    if count == 65536 {
-        io::write_all(STDOUT_FILENO, b"WRONG, more lines than there is room for\n");
-    }
+    vectors::run(case);
 }
 
-// Line by line.
-fn each(text: &[u8]) {
-    let mut start = 0;
-    while start < text.len() {
-        let end = vectors::end_of(text, start, b'\n');
-        line(&text[start..end]);
-        vectors::end_line();
-        if end == text.len() {
-            return;
-        }
-        start = end + 1;
+fn case(kind: &[u8], fields: Fields) {
+    match kind {
+        b"start" => asked::start(fields),
+        b"handed" => asked::handed(fields),
+        b"done" => asked::stays(fields, Ok(0)),
+        b"refused" => asked::stays(fields, Err(9)),
+        b"run" => through::run(fields),
+        b"cuts" => through::cuts(fields),
+        _ => vectors::word(b"WRONG, no such case"),
     }
-}
-
-fn line(line: &[u8]) {
-    io::write_all(STDOUT_FILENO, line);
-    let kind = vectors::kind(line, b"# start handed done refused run cuts");
-    if kind == HEADING {
-        return;
-    }
-    vectors::word(b":");
-    if kind == START {
-        asked::start(line);
-        return;
-    }
-    if kind == HANDED {
-        asked::handed(line);
-        return;
-    }
-    if kind == DONE {
-        asked::stays(line, 0);
-        return;
-    }
-    if kind == REFUSED {
-        asked::stays(line, 9);
-        return;
-    }
-    if kind == RUN {
-        through::run(line);
-        return;
-    }
-    if kind == CUTS {
-        through::cuts(line);
-        return;
-    }
-    vectors::word(b"WRONG, no such case");
 }

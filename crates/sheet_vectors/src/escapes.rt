@@ -1,6 +1,5 @@
 // An input as a line shows it: every byte as it stands, or by an escape.
 ghost use Rattle.std.specs.Prelude.{◌≡◌, ◌≤◌, ◌<◌, length};
-ghost use Rattle.io.specs.Counts.{IsPrefixLen};
 
 // A byte that stands so many times in the input, and the length of what shows it.
 #[derive(Clone, Copy)]
@@ -10,108 +9,53 @@ struct Shown {
     length: usize,
 }
 
-// The bytes that a text shows. Answers how many there was room for.
-pub(crate) fn read(text: &[u8], bytes: &mut [u8]) -> usize
-    ensures { IsPrefixLen result bytes.new }
+// The bytes that a text shows, put into the space, as many as there is room for. Stretch by stretch, since an escape may show one byte many
+// times.
+pub(crate) fn read<'a>(text: &[u8], space: &'a mut [u8]) -> &'a mut [u8]
+    ensures { length result.now ≤ length space.old }
 {
     let mut count = 0;
-    let mut i = 0;
-    while i < text.len() {
-        let shown = first(&text[i..]);
-        count = put(bytes, count, shown.byte, shown.times);
-        if shown.length > text.len() - i {
-            return count;
-        }
-        i += shown.length;
+    let mut rest = text;
+    while !rest.is_empty() {
+        let shown = first(rest);
+        let end = space.len().min(count + shown.times);
+        space[count..end].fill(shown.byte);
+        count = end;
+        rest = rest.get(shown.length..).unwrap_or(&[]);
     }
-    count
+    &mut space[..count]
 }
 
-// What a text shows first.
+// What a text shows first. Behind its end, the text reads as zeros.
 fn first(text: &[u8]) -> Shown
-    ensures { 1 ≤ result.length }
+    ensures some { 1 ≤ result.length }
+    ensures few { result.times < 256 }
 {
-    let byte = letter(text, 0);
-    if byte != b'\\' {
-        return once(byte, 1);
-    }
-    let kind = letter(text, 1);
-    if kind == b'n' {
-        return once(b'\n', 2);
-    }
-    if kind == b'r' {
-        return once(b'\r', 2);
-    }
-    if kind == b't' {
-        return once(b'\t', 2);
-    }
-    if kind == b'x' {
-        return once(hexadecimal(text), 4);
-    }
-    if kind == b'*' {
-        return Shown {
-            byte: letter(text, 4),
-            times: hexadecimal(text) as usize,
-            length: 5,
-        };
-    }
-    once(kind, 2)
-}
-
-fn once(byte: u8, length: usize) -> Shown
-    ensures { result.length ≡ length }
-{
+    let letter = |place: usize| text.get(place).copied().unwrap_or(0);
+    let number = 16 * digit(letter(2)) + digit(letter(3));
+    let (byte, times, length) = match (letter(0), letter(1)) {
+        (b'\\', b'n') => (b'\n', 1, 2),
+        (b'\\', b'r') => (b'\r', 1, 2),
+        (b'\\', b't') => (b'\t', 1, 2),
+        (b'\\', b'x') => (number, 1, 4),
+        (b'\\', b'*') => (letter(4), usize::from(number), 5),
+        (b'\\', kind) => (kind, 1, 2),
+        (byte, _) => (byte, 1, 1),
+    };
     Shown {
         byte,
-        times: 1,
+        times,
         length,
     }
 }
 
-// The text's byte at a place, 0 behind its end.
-fn letter(text: &[u8], place: usize) -> u8 {
-    if place < text.len() {
-        return text[place];
-    }
-    0
-}
-
-// The number of two digits, behind an escape's two letters.
-fn hexadecimal(text: &[u8]) -> u8 {
-    16 * digit(letter(text, 2)) + digit(letter(text, 3))
-}
-
-// Digits and small letters; 0 for any other byte.
+// Of hexadecimal digits, with small letters; 0 for any other byte.
 fn digit(letter: u8) -> u8
     ensures { result < 16 }
 {
-    if letter >= b'0' {
-        if letter <= b'9' {
-            return letter - b'0';
-        }
+    match letter {
+        b'0'..=b'9' => letter - b'0',
+        b'a'..=b'f' => letter - b'a' + 10,
+        _ => 0,
     }
-    if letter >= b'a' {
-        if letter <= b'f' {
-            return letter - b'a' + 10;
-        }
-    }
-    0
-}
-
-// A byte so many times, from place `at` on. Answers where the bytes end then.
-fn put(bytes: &mut [u8], at: usize, byte: u8, times: usize) -> usize
-    requires { at ≤ length bytes.old }
-    ensures { IsPrefixLen result bytes.new }
-{
-    let mut end = at;
-    let mut left = times;
-    while left > 0 {
-        if end >= bytes.len() {
-            return end;
-        }
-        bytes[end] = byte;
-        end += 1;
-        left -= 1;
-    }
-    end
 }

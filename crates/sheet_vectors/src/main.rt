@@ -14,52 +14,16 @@ mod escapes;
 mod pieces;
 mod state;
 
-use vectors::{STDIN_FILENO, STDOUT_FILENO};
-
-// Where the names stand in the list of `line`.
-const HEADING: usize = 0;
-
-const SHEET: usize = 1;
-
-const FILL: usize = 2;
+use vectors::Fields;
 
 fn main() {
-    let mut input = io::large_buffer();
-    let count = io::read_full(STDIN_FILENO, &mut input);
-    each(&input[..count]);
-    if count == 65536 {
-        io::write_all(STDOUT_FILENO, b"WRONG, more lines than there is room for\n");
-    }
+    vectors::run_below(case);
 }
 
-// Line by line.
-fn each(text: &[u8]) {
-    let mut start = 0;
-    while start < text.len() {
-        let end = vectors::end_of(text, start, b'\n');
-        line(&text[start..end]);
-        if end == text.len() {
-            return;
-        }
-        start = end + 1;
+fn case(kind: &[u8], fields: Fields) {
+    match kind {
+        b"sheet" => pieces::whole(fields),
+        b"fill" => pieces::one(fields),
+        _ => pieces::wrong(b"WRONG, no such case"),
     }
-}
-
-fn line(line: &[u8]) {
-    io::write_all(STDOUT_FILENO, line);
-    vectors::end_line();
-    let kind = vectors::kind(line, b"# sheet fill");
-    if kind == HEADING {
-        return;
-    }
-    if kind == SHEET {
-        pieces::whole(line);
-        return;
-    }
-    if kind == FILL {
-        pieces::one(line);
-        return;
-    }
-    vectors::word(b"WRONG, no such case");
-    vectors::end_line();
 }

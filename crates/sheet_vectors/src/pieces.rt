@@ -3,35 +3,33 @@ ghost use Rattle.std.specs.Prelude.{◌≤◌};
 
 use crate::{escapes, state};
 use lines::{Filled, Sheet};
-use shape::Numbered;
-use vectors::STDOUT_FILENO;
+use shape::Refusal;
+use vectors::Fields;
 
 // The byte that the buffer is filled with before a piece, and which no piece has.
 const UNTOUCHED: u8 = 126;
 
-pub(crate) fn whole(line: &[u8]) {
-    let mut input = [0u8; 512];
-    let count = escapes::read(vectors::rest(line, 2), &mut input);
-    if count == 512 {
+pub(crate) fn whole(mut fields: Fields) {
+    let room = room(&mut fields);
+    let mut space = [0u8; 512];
+    let input = escapes::read(fields.rest, &mut space);
+    if input.len() == 512 {
         wrong(b"WRONG, a longer input than there is room for");
     }
-    hand_out(Sheet::open(&input[..count]), room(line));
+    hand_out(Sheet::open(input), room);
 }
 
-pub(crate) fn one(line: &[u8]) {
-    let filled = piece(state::read(vectors::rest(line, 2)), room(line));
+pub(crate) fn one(mut fields: Fields) {
+    let room = room(&mut fields);
+    let filled = piece(state::read(fields), room);
     state::show(filled.sheet);
 }
 
 // The buffer's length.
-fn room(line: &[u8]) -> usize
+fn room(fields: &mut Fields) -> usize
     ensures { result ≤ 4096 }
 {
-    let length = vectors::number(line, 1);
-    if length > 4096 {
-        return 4096;
-    }
-    length as usize
+    fields.size().min(4096)
 }
 
 // Pieces till one has no bytes or is refused. No case has as many as are waited for.
@@ -39,15 +37,12 @@ fn hand_out(sheet: Sheet, room: usize)
     requires { room ≤ 4096 }
 {
     let mut left = sheet;
-    let mut turns = 1000usize;
-    while turns > 0 {
+    for _ in 0..1000 {
         let filled = piece(left, room);
-        let reply = filled.bytes;
-        if vectors::number_of(reply) == 0 {
+        if filled.bytes.unwrap_or(0) == 0 {
             return;
         }
         left = filled.sheet;
-        turns -= 1;
     }
     wrong(b"WRONG, no end");
 }
@@ -56,57 +51,39 @@ fn hand_out(sheet: Sheet, room: usize)
 fn piece(sheet: Sheet, room: usize) -> Filled
     requires { room ≤ 4096 }
 {
-    let mut space = [UNTOUCHED; 4096];
-    let buffer: &mut [u8] = &mut space;
-    let filled = sheet.fill(&mut buffer[0..room]);
-    let reply = filled.bytes;
-    let count = print(reply, buffer);
-    if !untouched(buffer, count) {
+    let mut buffer = [UNTOUCHED; 4096];
+    let filled = sheet.fill(&mut buffer[..room]);
+    let count = print(filled.bytes, &buffer);
+    if buffer.iter().skip(count).any(|byte| *byte != UNTOUCHED) {
         wrong(b"WRONG, more of the buffer was written");
     }
     filled
 }
 
 // Answers how many bytes the piece has.
-fn print(reply: Numbered, buffer: &[u8]) -> usize {
+fn print(reply: Result<u64, Refusal>, buffer: &[u8]) -> usize {
     match reply {
-        Numbered::Refused(refusal) => {
+        Err(refusal) => {
             vectors::word(b"no");
             vectors::decimal(refusal.number());
             vectors::end_line();
             0
         }
-        Numbered::Value(bytes) => {
+        Ok(bytes) => {
+            let count = bytes as usize;
             vectors::decimal(bytes);
             vectors::word(b"bytes");
             vectors::end_line();
-            write(buffer, bytes as usize);
-            bytes as usize
+            match buffer.get(..count) {
+                Some(piece) => vectors::print(piece),
+                None => wrong(b"WRONG, more than there is room for"),
+            }
+            count
         }
     }
 }
 
-fn write(buffer: &[u8], count: usize) {
-    if count > buffer.len() {
-        wrong(b"WRONG, more than there is room for");
-        return;
-    }
-    io::write_all(STDOUT_FILENO, &buffer[0..count]);
-}
-
-// Whether nothing was written from that place on.
-fn untouched(buffer: &[u8], from: usize) -> bool {
-    let mut i = from;
-    while i < buffer.len() {
-        if buffer[i] != UNTOUCHED {
-            return false;
-        }
-        i += 1;
-    }
-    true
-}
-
-fn wrong(what: &[u8]) {
+pub(crate) fn wrong(what: &[u8]) {
     vectors::word(what);
     vectors::end_line();
 }

@@ -1,56 +1,50 @@
 // A sheet as a line shows it.
 use lines::Sheet;
 use run::Run;
+use vectors::Fields;
 
 // The sheet that nine fields show.
-pub(crate) fn read(text: &[u8]) -> Sheet {
-    let mut places = [0u8; 70];
-    vectors::read(vectors::field(text, 8), &mut places);
-    let run = Run {
-        size: vectors::number(text, 4) as usize,
-        next: vectors::number(text, 5),
-        end: vectors::number(text, 6),
-        figure: vectors::number(text, 7),
-        places,
+pub(crate) fn read(mut fields: Fields) -> Sheet {
+    let refusal = fields.number();
+    let opened = fields.number() == 1;
+    let ended = fields.number() == 1;
+    let first = fields.number();
+    let mut run = Run {
+        size: fields.size(),
+        next: fields.number(),
+        end: fields.number(),
+        figure: fields.number(),
+        places: [0; 70],
     };
+    vectors::read(fields.text(), &mut run.places);
     Sheet {
-        refusal: vectors::number(text, 0),
-        opened: vectors::number(text, 1) == 1,
-        ended: vectors::number(text, 2) == 1,
-        first: vectors::number(text, 3),
+        refusal,
+        opened,
+        ended,
+        first,
         run,
     }
 }
 
 // Prints the nine fields, with all seventy places.
 pub(crate) fn show(sheet: Sheet) {
-    vectors::decimal(sheet.refusal);
-    vectors::decimal(sheet.opened as u64);
-    vectors::decimal(sheet.ended as u64);
-    vectors::decimal(sheet.first);
     let run = sheet.run;
+    vectors::decimal(sheet.refusal);
+    vectors::decimal(u64::from(sheet.opened));
+    vectors::decimal(u64::from(sheet.ended));
+    vectors::decimal(sheet.first);
     vectors::decimal(run.size as u64);
     vectors::decimal(run.next);
     vectors::decimal(run.end);
     vectors::decimal(run.figure);
-    let mut places = run.places;
-    spell(&mut places);
-    vectors::word(&places);
+    vectors::word(&run.places.map(letter));
     vectors::end_line();
 }
 
-// Each place becomes its letter: a digit, and x for any other.
-fn spell(places: &mut [u8]) {
-    let mut i = 0;
-    while i < places.len() {
-        places[i] = letter(places[i]);
-        i += 1;
-    }
-}
-
+// A digit, and x for any other place.
 fn letter(place: u8) -> u8 {
-    if place > 9 {
-        return b'x';
+    match place {
+        0..=9 => b'0' + place,
+        _ => b'x',
     }
-    b'0' + place
 }

@@ -1,208 +1,114 @@
-// A line's fields, with single spaces between them, and what they stand for: words, numbers, places, entries, and bytes.
-ghost use Rattle.std.specs.Prelude.{◌≡◌, true, ◌≤◌, length};
-ghost use Rattle.std.specs.Int.Signed.{non_neg};
-ghost use Rattle.io.specs.Counts.{IsPrefixLen};
+// A line's fields, with single spaces between them, and what they stand for: words, numbers, distances and refusals.
+ghost use Rattle.std.specs.Prelude.{◌≡◌, ◌-◌, ◌^◌, ◌==◌, min, length, position};
+ghost use Rattle.std.specs.Iterator.{at_most};
+ghost use Rattle.std.specs.Int.{w64, saturate_signed};
+ghost use Rattle.vectors.specs.Line.{field, behind, place_of, decimal_of, number_of, expected_of, distance_of};
 
-// The k-th field, from 0; empty where the line has fewer.
-pub fn field(line: &[u8], k: usize) -> &[u8] {
-    let start = start_of(line, k);
-    let end = end_of(line, start, b' ');
-    &line[start..end]
+// What a line has left. As an iterator it ends before the first empty field.
+#[derive(Clone, Copy)]
+pub struct Fields<'a> {
+    pub rest: &'a [u8],
 }
 
-// What the line has from its k-th field on; empty where it has fewer.
-pub fn rest(line: &[u8], k: usize) -> &[u8] {
-    let start = start_of(line, k);
-    &line[start..]
+impl<'a> Iterator for Fields<'a> {
+    type Item = &'a [u8];
+
+    ghost remaining = { λ fields. at_most (length fields.rest.now) };
+
+    fn next(&mut self) -> Option<&'a [u8]> {
+        let field = self.text();
+        (!field.is_empty()).then_some(field)
+    }
 }
 
-fn start_of(line: &[u8], k: usize) -> usize
-    ensures { result ≤ length line.now }
-{
-    let mut start = 0;
-    let mut left = k;
-    while left > 0 {
-        start = end_of(line, start, b' ');
-        if start == line.len() {
-            return start;
+impl<'a> Fields<'a> {
+    pub fn of(line: &'a [u8]) -> Self
+        ensures { result.rest.now ≡ line.now }
+    {
+        Fields { rest: line }
+    }
+
+    // The next field; empty where the line has no more.
+    pub fn text(&mut self) -> &'a [u8]
+        ensures text { result.now ≡ field self.old.rest.now }
+        ensures rest { self.new.rest.now ≡ behind self.old.rest.now }
+    {
+        let line = self.rest;
+        match space(line) {
+            Some(end) => {
+                self.rest = &line[end + 1..];
+                &line[..end]
+            }
+            None => {
+                self.rest = &[];
+                line
+            }
         }
-        start += 1;
-        left -= 1;
     }
-    start
-}
 
-// Which of the names a line begins with, from 0; for a name that is not among them, the number of names or more.
-pub fn kind(line: &[u8], names: &[u8]) -> usize {
-    let name = field(line, 0);
-    let mut k = 0;
-    while k < names.len() {
-        if check::same(name, field(names, k)) {
-            return k;
+    // The next field as a decimal number; the largest there is where it is larger than that.
+    pub fn number(&mut self) -> u64
+        ensures value { result ≡ number_of self.old.rest.now }
+        ensures rest { self.new.rest.now ≡ behind self.old.rest.now }
+    {
+        digits(self.text())
+    }
+
+    // The same of a size or a length.
+    pub fn size(&mut self) -> usize
+        ensures value { result ≡ number_of self.old.rest.now }
+        ensures rest { self.new.rest.now ≡ behind self.old.rest.now }
+    {
+        self.number() as usize
+    }
+
+    // The next field as what is expected of a call: done, or a refusal's number.
+    pub fn refusal(&mut self) -> Result<(), u64>
+        ensures value { result ≡ expected_of (number_of self.old.rest.now) }
+        ensures rest { self.new.rest.now ≡ behind self.old.rest.now }
+    {
+        match self.number() {
+            0 => Ok(()),
+            refusal => Err(refusal),
         }
-        k += 1;
     }
-    k
-}
 
-// Where the letter stands next, from `start` on; where it does not, the text's end.
-pub fn end_of(text: &[u8], start: usize, letter: u8) -> usize
-    requires { start ≤ length text.now }
-    ensures { (start ≤ result) × (result ≤ length text.now) }
-{
-    let mut i = start;
-    while i < text.len() {
-        if text[i] == letter {
-            return i;
+    // The next field as a signed decimal number; the farthest from 0 there is where it is farther than that.
+    pub fn distance(&mut self) -> i64
+        ensures value { result ≡ saturate_signed w64 (distance_of (field self.old.rest.now)) }
+        ensures rest { self.new.rest.now ≡ behind self.old.rest.now }
+    {
+        let text = self.text();
+        match text.strip_prefix(b"-") {
+            Some(back) => 0i64.saturating_sub_unsigned(digits(back)),
+            None => 0i64.saturating_add_unsigned(digits(text)),
         }
-        i += 1;
     }
-    i
 }
 
-// The k-th field as a decimal number; the largest there is where it is larger than that.
-pub fn number(line: &[u8], k: usize) -> u64 {
-    digits(field(line, k))
-}
-
-fn digits(text: &[u8]) -> u64 {
-    let mut value = 0;
-    let mut i = 0;
-    while i < text.len() {
-        let digit = place(text[i]) as u64;
-        if value > (18446744073709551615 - digit) / 10 {
-            return 18446744073709551615;
-        }
-        value = 10 * value + digit;
-        i += 1;
-    }
-    value
-}
-
-// The k-th field as a signed decimal number; the farthest from 0 there is where it is farther than that.
-pub fn distance(line: &[u8], k: usize) -> i64 {
-    let text = field(line, k);
-    if text.len() == 0 {
-        return 0;
-    }
-    if text[0] == b'-' {
-        return signed(true, digits(&text[1..]));
-    }
-    signed(false, digits(text))
-}
-
-// So far back or on; the farthest there is where it is farther than that.
-pub fn signed(is_back: bool, by: u64) -> i64 {
-    if !is_back {
-        return onward(by);
-    }
-    if by == 0 {
-        return 0;
-    }
-    backward(onward(by - 1))
-}
-
-fn onward(by: u64) -> i64
-    ensures { non_neg result ≡ true }
+fn space(line: &[u8]) -> Option<usize>
+    ensures { result ≡ position (λ letter. letter == 32) line.now }
 {
-    if by > 9223372036854775807 {
-        return 9223372036854775807;
-    }
-    by as i64
+    line.iter().position(|letter| *letter == b' ')
 }
 
-// One farther back than `less` is on: so far the least signed number is too, and its opposite would not fit.
-fn backward(less: i64) -> i64
-    requires { non_neg less ≡ true }
+// The number that a text shows; the largest there is where it is larger than that.
+pub(crate) fn digits(text: &[u8]) -> u64
+    ensures { result ≡ min (decimal_of text.now) (2 ^ 64 - 1) }
 {
-    -1 - less
+    text.iter().fold(0u64, |value, letter| {
+        value
+            .saturating_mul(10)
+            .saturating_add(u64::from(place(*letter)))
+    })
 }
 
-// The places that a text shows, one by a digit, 255 by x, and none at all by -. Answers how many there was room for.
-pub fn read(text: &[u8], places: &mut [u8]) -> usize
-    ensures { IsPrefixLen result places.new }
+// A digit's value, and 255 for any other letter.
+pub(crate) fn place(letter: u8) -> u8
+    ensures { result ≡ place_of letter }
 {
-    if check::same(text, b"-") {
-        return 0;
+    match letter {
+        b'0'..=b'9' => letter - b'0',
+        _ => 255,
     }
-    let mut i = 0;
-    while i < text.len() {
-        if i >= places.len() {
-            return i;
-        }
-        places[i] = place(text[i]);
-        i += 1;
-    }
-    i
-}
-
-fn place(letter: u8) -> u8 {
-    if letter < b'0' {
-        return 255;
-    }
-    if letter > b'9' {
-        return 255;
-    }
-    letter - b'0'
-}
-
-// The entries that a text shows, decimals with commas between them, and none at all by -. Answers how many there was room for.
-pub fn read_entries(text: &[u8], entries: &mut [u16]) -> usize
-    ensures { IsPrefixLen result entries.new }
-{
-    if check::same(text, b"-") {
-        return 0;
-    }
-    let mut start = 0;
-    let mut k = 0;
-    while start <= text.len() {
-        if k >= entries.len() {
-            return k;
-        }
-        let end = end_of(text, start, b',');
-        entries[k] = entry(&text[start..end]);
-        start = end + 1;
-        k += 1;
-    }
-    k
-}
-
-// The largest there is where the number is larger than that.
-fn entry(text: &[u8]) -> u16 {
-    let value = digits(text);
-    if value > 65535 {
-        return 65535;
-    }
-    value as u16
-}
-
-// The bytes that a text shows, written as entries are. Answers how many there was room for.
-pub fn read_bytes(text: &[u8], bytes: &mut [u8]) -> usize
-    ensures { IsPrefixLen result bytes.new }
-{
-    let mut entries = [0u16; 36];
-    let count = read_entries(text, &mut entries);
-    narrow(&entries[..count], bytes)
-}
-
-fn narrow(entries: &[u16], bytes: &mut [u8]) -> usize
-    ensures { IsPrefixLen result bytes.new }
-{
-    let mut k = 0;
-    while k < entries.len() {
-        if k >= bytes.len() {
-            return k;
-        }
-        bytes[k] = byte(entries[k]);
-        k += 1;
-    }
-    k
-}
-
-// The largest there is where the entry is larger than that.
-fn byte(entry: u16) -> u8 {
-    if entry > 255 {
-        return 255;
-    }
-    entry as u8
 }

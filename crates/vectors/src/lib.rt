@@ -1,15 +1,18 @@
-// What the programs share that run vectors, cases that stand as lines of text: a line's fields, and what is printed of a case.
+// What the programs share that run vectors, cases that stand as lines of text: going over the lines, a line's fields, how the items of a
+// slice are written there, and what is printed of a case.
+//
+// Nothing here or in the programs asks for memory, and what fails to be printed is passed over: items stand in arrays that the caller lends, and
+// io reads and writes. A Vec or std's streams would let a program end with an error where it ends with none.
 #![tactic(auto)]
 
+mod cases;
 mod fields;
+mod notation;
 mod report;
+mod way;
 
-pub use fields::{
-    distance, end_of, field, kind, number, read, read_bytes, read_entries, rest, signed,
-};
-pub use report::{
-    BACK, CHANGE, CHECK, COUNT, DEPTH, END, FIGURE, HANDED, HEAD, IS, LATER, MOVE, NEXT, NUMBER,
-    ON, PLACES, READ, SHAPE, SIZE, START, STDIN_FILENO, STDOUT_FILENO, TO_PATTERN, TO_PERMUTATION,
-    WRITE, are_entries, are_places, decimal, end_line, equals, holds, holds_bytes, holds_entries,
-    name, number_of, outcome, refusal_of, value, word,
-};
+pub use cases::{run, run_below};
+pub use fields::Fields;
+pub use notation::{Notation, Text, read};
+pub use report::{are, decimal, end_line, equals, holds, outcome, print, value, word};
+pub use way::Way;
