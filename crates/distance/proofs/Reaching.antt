@@ -1,7 +1,6 @@
 -- A move as code makes it, over any numbering. A signed number that is handed on is read back from its bits, so what a callee is lent is
 -- `to_z w64 (of_z w64 d)`; d is the distance that the caller was lent.
 --     sum_reaches, sum_moved, sum_stops      where the shape's number and what the distance adds, t, is below C(n) it is the target's number
---     told_refused, told_kept                what a call says and leaves after a refused check
 --     told_done, told_past, told_left        what a call says and leaves where a worker told it whether the target was reached
 -- Assumes nothing.
 use mathlib.Core.Path.{◌≡◌, sym, ap, ◌∙◌}
@@ -18,12 +17,11 @@ use Rattle.catalan.specs.Count.{largest_size}
 use Rattle.catalan.proofs.Counting.{C_half}
 use Rattle.shape.specs.Form.{Tested}
 use Rattle.shape.specs.Numbering.{Numbering, total, WellFormed, Lawful}
-use Rattle.shape.specs.Reply.{outcome_reply, refused, Outcome}
+use Rattle.shape.specs.Reply.{outcome_reply, refused}
 use Rattle.shape.specs.Check.{checked}
-use Rattle.shape.specs.Move.{target, reaches, moved, end_past, move_check, move_reply, move_end}
+use Rattle.shape.specs.Move.{target, reaches, moved, end_past, move_reply, move_end}
 use Rattle.shape.specs.declared.Refusal.{Refusal}
-use Rattle.std.specs.Prelude.{Ok, Err}
-use Rattle.shape.proofs.Answers.{then_refused, outcome_passed, left_old}
+use Rattle.std.specs.Prelude.{Ok}
 use Rattle.shape.proofs.Distances.{reach_done, reach_past, reach_left}
 use Rattle.distance.proofs.Sums.{sum_reached, sum_past}
 
@@ -48,20 +46,6 @@ module _ (N : Numbering) (laws : Lawful N) (small : N.nodes ≤ largest_size) (p
   pub sum_stops : total N ≤ t → false ≡ reaches N d p
   unfolding reaches target
   sum_stops h = sym (sum_past (N.number p) (total N) limit (laws.number_below p g) d f t e h)
-
--- o is what the check answered, a refusal
-module _ (N : Numbering) (d : ℤ) (p : List ℕ) (o : Outcome) (f : Refusal) (h : o ≡ Err f) (e : checked N.form N.nodes p ≡ o) where
-  refused_first : move_check N d p ≡ o
-  unfolding move_check
-  refused_first = then_refused (checked N.form N.nodes p) _ o f h e
-
-  pub told_refused : refused f ≡ move_reply N d p
-  unfolding move_reply
-  told_refused = outcome_passed (move_check N d p) o f h refused_first
-
-  pub told_kept : p ≡ move_end N d p
-  unfolding move_end
-  told_kept = left_old (move_check N d p) o (moved N d p) p f h refused_first
 
 -- b is what the worker answered, f the refusal of the end that was passed, x what was left
 module _ (N : Numbering) (d : ℤ) (s : SFits w64 d) (p : List ℕ) (r : checked N.form N.nodes p ≡ Ok tt) where

@@ -1,18 +1,21 @@
--- Laws of the loops that read a pattern from its first place on: `depth`, `head_length`, `before`.
+-- Laws of what reads a pattern from its first place on: `depth`, `head_length`, `before`, `first_above`.
 --     place_open, place_turn      what a place does to the excess of ones over zeros
 --     Climbed            the excess and the largest excess so far
 --     depth_.., climbed_next      the walk by two places; top_open and pair_open, that its differences do not wrap
 --     Inside             the excess so far, and that the head goes on as long as it is above 0
 --     head_..            the walk to the head's last place
 --     before_..          the patterns are the same so far, and the first difference (_found) decides
---     climbing, heading, ordering, searching      what the proofs of `depth`, `head_length`, `before` and `first_above` use
+--     FirstAbove, above_found      the first place above a number, as a search from some place on finds it
+--     climbing, heading, ordering      what the proofs of `depth`, `head_length` and `before` use
 -- Of a loop: _begin is what holds at its start, _turn or _next what one turn makes, _end what it leaves.
 -- Assumes nothing.
-use Rattle.std.proofs.Common.{◌≡◌, ℕ, suc, ◌+◌, ◌-◌, ◌*◌, ◌^◌, ◌<◌, ◌≤◌, max, true, false, ltb, List, length, get_or, take, sym, ap, ◌∙◌, subst, inl, inr, le_of_eq, le_of_lt, eq-or-lt_of_le, add-one, arith, take_all, take-suc, w64, Fits, le-ltb, lt-ltb}
+use Rattle.std.proofs.Common.{◌≡◌, Option, Some, None, ℕ, zero, suc, ◌+◌, ◌-◌, ◌*◌, ◌<◌, ◌≤◌, max, Bool, true, false, ltb, leb, List, length, get_or, take, drop, refl, sym, ap, ◌∙◌, subst, inl, inr, le_of_eq, le_of_lt, eq-or-lt_of_le, add-zero, add-one, arith, take_all, take-suc, get_or-take, get_or-drop, length-drop, length-take-le, le-ltb, lt-ltb}
+use Rattle.std.specs.Option.{MatchOption}
 use native.Mathlib.Decide.{dec_lt}
 use Rattle.shape.specs.Tree.{head, pattern}
 use Rattle.shape.specs.Form.{Feasible, pattern_tree}
 use Rattle.shape.specs.Number.{local_number, largest, depth}
+use Rattle.shape.specs.Faults.{first_fault}
 use Rattle.shape.proofs.Patterns.{feasible_length, pattern_of}
 use Rattle.shape.proofs.Searches.{search_on, search_hit, search_end}
 use borrow.Author.Tests.{le-leb, lt-leb}
@@ -195,12 +198,50 @@ module _ (n : ℕ) (p q : List ℕ) (g : Feasible n p) (h : Feasible n q) (i : �
       let all : p ≡ q = cc (take_all i p (omega (arith, feasible_length n p g)), take_all i q (omega (arith, feasible_length n q h))) in
       sym (le-ltb _ _ (le_of_eq (ap local_number (sym all))))
 
--- ---- what the proofs of `depth`, `head_length`, `before` and `first_above` use
+-- ---- the first place above
+
+-- where d places pass, the search goes on behind them
+passed : (f : ℕ → Bool) (n s d : ℕ) → s + d ≤ n → ((k : ℕ) → k < d → f (s + k) ≡ true) → first_fault s (n - s) f ≡ first_fault (s + d) (n - (s + d)) f
+passed f n s zero h all = rw add-zero
+passed f n s (suc d) h all =
+    let next : s + d + 1 ≡ s + suc d = omega arith in
+    passed f n s d (omega arith) (λ k l. all k (omega arith)) ∙ rw next at (search_on f _ n (s + d) refl (omega arith) (all d (omega arith)))
+
+-- r is the first place of v that is above m, if there is one
+abbrev pub FirstAbove : ℕ → List ℕ → Option ℕ → Type 0
+FirstAbove m v r =
+    MatchOption r ((k : ℕ) → k < length v → get_or v k 0 ≤ m) (λ i. (i < length v) × (m < get_or v i 0) × ((k : ℕ) → k < i → get_or v k 0 ≤ m))
+
+module _ (p : List ℕ) (m from : ℕ) (within : from ≤ length p) where
+  abbrev behind : List ℕ
+  behind = take (length p - from) (drop from p)
+
+  long : length behind ≡ length p - from
+  long = length-take-le (length p - from) (drop from p) (omega (arith, length-drop from p))
+
+  read : (k : ℕ) → k < length p - from → get_or behind k 0 ≡ get_or p (from + k) 0
+  read k h = get_or-take (length p - from) (drop from p) k 0 h ∙ get_or-drop from p k 0
+
+  abbrev test : ℕ → Bool
+  test k = leb (get_or p k 0) m
+
+  low : (d : ℕ) → d ≤ length p - from → ((k : ℕ) → k < d → get_or behind k 0 ≤ m)
+      → first_fault from (length p - from) test ≡ first_fault (from + d) (length p - (from + d)) test
+  low d h all = passed test (length p) from d (omega arith) (λ k l. le-leb _ _ (omega (arith, read k (omega arith), all k l)))
+
+  pub above_found : (k : ℕ) (r : Option ℕ) → FirstAbove m behind r → MatchOption r (k ≡ length p) (λ i. k ≡ from + i)
+      → k ≡ first_fault from (length p - from) test
+  above_found k None all none =
+      let end : from + (length p - from) ≡ k = omega (arith, none) in
+      rw end at (search_end test _ (length p) (from + (length p - from)) (low (length p - from) (omega arith) (λ j h. all j (omega (arith, long)))) (omega arith))
+  above_found k (Some i) (on, above, all) here =
+      here ∙ search_hit test _ (length p) (from + i) (low i (omega (arith, long)) all) (omega (arith, long))
+      (lt-leb _ _ (omega (arith, read i (omega (arith, long)), above)))
+
+-- ---- what the proofs of `depth`, `head_length` and `before` use
 
 pub ruleset climbing = (depth_begin, top_open, pair_open, climbed_next, depth_end)
 
 pub ruleset heading = (head_begin, head_open_next, head_turn)
 
 pub ruleset ordering = (feasible_length, before_found, before_turn, before_end)
-
-pub ruleset searching = (le-leb, lt-leb, search_on, search_hit, search_end)

@@ -153,8 +153,8 @@ pub fn head_length(size: usize, places: &[u8]) -> usize
     i
 }
 
-// Dictionary order is the local order, so no number is worked out. Place by place: the first few mostly decide, and both of the slices' own
-// comparisons, `<` and `cmp`, take longer there.
+// Dictionary order is the local order, so no number is worked out. Place by place: the first few mostly decide, and there the slices' own
+// comparisons, `<` and `cmp`, and a zip of the two take longer.
 #[tactic(auto, using(crate::proofs::Walks::ordering))]
 pub fn before(size: usize, first: &[u8], second: &[u8]) -> bool
     requires { Feasible size first.now × Feasible size second.now }
@@ -170,15 +170,12 @@ pub fn before(size: usize, first: &[u8], second: &[u8]) -> bool
 
 // The first place from `from` on that is above `most`; where there is none, as many as there are places, as `first_fault` has it. Of all that
 // stands here this alone asks for no pattern.
-#[tactic(auto, using(crate::proofs::Walks::searching))]
 pub fn first_above(places: &[u8], most: u8, from: usize) -> usize
     requires { from ≤ length places.now }
     ensures { result ≡ first_fault from (length places.now - from) (λ i. nat_le (slice_index places.now i) most) }
 {
-    for i in from..places.len() {
-        if places[i] > most {
-            return i;
-        }
-    }
-    places.len()
+    places[from..]
+        .iter()
+        .position(|&place| place > most)
+        .map_or(places.len(), |passed| from + passed)
 }

@@ -6,7 +6,6 @@
 --     putting_begin             so it is at the start, where q is the tree with which the way begins
 --     putting_first, putting_last      and with one label more
 --     putting_end               none is still to be written: that is what stands there
---     putting                   these, for `put_end`
 -- Assumes nothing.
 use mathlib.Core.Path.{◌≡◌, refl, sym, ap, ◌∙◌}
 use mathlib.Core.Bool.{Bool, true, false, not}
@@ -121,6 +120,3 @@ module _ (b n i : ℕ) (p q : List ℕ) where
   putting_end on m all =
       let none : n - i ≡ 0 = omega arith in
       sym (append-nil p) ∙ rw (none, none_left on, take_all i p (omega (arith, m.long))) at m.written
-
--- what `put_end` is proved with
-pub ruleset putting = (putting_begin, putting_first, putting_last, putting_end)

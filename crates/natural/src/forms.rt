@@ -8,7 +8,6 @@ ghost use Rattle.shape.specs.Form.{Feasible, TreePermutation, pattern_tree, perm
 // A 0 gives a label, which waits for its node's 1; the label given last is taken first. Labels wait at the front of the slice, entries are
 // complete from k on, and between them there is room for the labels not yet given. Nothing foretells a place, so a turn has no branch and
 // reckons with the place: at a 1 the label taken goes to k, at a 0 the label given, as large as the gap, goes to those that wait.
-// By index and downward: an iterator over the places would not tell the proof which place a turn reads.
 #[tactic(auto, using(crate::proofs::Labels::labelling))]
 pub fn permutation_of(size: usize, places: &[u8], entries: &mut [u16])
     requires { (size ≤ largest_size) × Feasible size places.now × (length entries.old ≡ size) }
@@ -16,8 +15,8 @@ pub fn permutation_of(size: usize, places: &[u8], entries: &mut [u16])
 {
     let mut waiting = 0;
     let mut k = size;
-    for i in (0..2 * size).rev() {
-        let one = places[i] as usize;
+    for &place in places.iter().rev() {
+        let one = place as usize;
         waiting -= one;
         k -= one;
         let gap = k - waiting;
@@ -27,7 +26,8 @@ pub fn permutation_of(size: usize, places: &[u8], entries: &mut [u16])
     }
 }
 
-// The labels not below an entry have their zeros behind its 1. Here too a turn has no branch.
+// The labels not below an entry have their zeros behind its 1. Here too a turn has no branch. By index: of places that `iter_mut` lends, the
+// proof knows afterwards only that they were lent, and not what was written there.
 #[tactic(auto, using(crate::proofs::Zeros::writing))]
 pub fn pattern_of(size: usize, entries: &[u16], places: &mut [u8])
     requires { (size ≤ largest_size) × TreePermutation size entries.now × (length places.old ≡ 2 * size) }

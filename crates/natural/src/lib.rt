@@ -63,7 +63,8 @@ struct Split {
 }
 
 // A part that is to be written: the labels after its base, how many entries it has, and its number. The fields leave no gap, which a copy
-// would carry along.
+// would carry along. No `Option` of it where none waits: a part of no entries says that, and an option makes each of the 35 places 24 bytes
+// in place of 16.
 #[derive(Clone, Copy)]
 struct Unwritten {
     base: u32,
