@@ -7,7 +7,7 @@
 --     next_found, next_left, previous_left        then a step on and a step back: whether there is one, and what it leaves
 --     answers                                     these and the laws of any call, for `search`
 -- Assumes nothing.
-use Rattle.std.proofs.Common.{◌≡◌, ℕ, ◌+◌, ◌-◌, ◌*◌, ◌<◌, ◌≤◌, Bool, true, false, cond, ltb, List, length, get_or, ap, ◌∙◌, le_of_lt, arith, w64, Fits, rules}
+use Rattle.std.proofs.Common.{◌≡◌, ℕ, ◌+◌, ◌-◌, ◌<◌, ◌≤◌, Bool, true, false, cond, ltb, List, length, get_or, ap, ◌∙◌, le_of_lt, arith, rules}
 use Rattle.catalan.specs.Count.{C, largest_size}
 use Rattle.catalan.specs.Table.{catalans, table_at}
 use Rattle.catalan.proofs.Tables.{table_entry}

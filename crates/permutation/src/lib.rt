@@ -1,5 +1,7 @@
 // The calls on tree permutations, in the natural order. Each takes every input: what is no tree permutation of the size, no number below
-// C(n), or has no neighbour, is refused before anything is written.
+// C(n), or has no neighbour, is refused before anything is written. Crate `pattern` has the same calls in the local order: they differ in the
+// form, in the work that is called, and in what a step answers, so that one generic call would take a trait with a member for each line that
+// it saves.
 #![tactic(auto)]
 
 mod faults;
@@ -83,7 +85,7 @@ pub fn move_by(size: usize, distance: i64, entries: &mut [u16]) -> Result<(), Re
     check(size, entries)?;
     let catalans = catalan::table();
     let number = natural::number(&catalans, 0, entries);
-    let target = std::num::wrapping_add_u64(number, distance::added(distance));
+    let target = number.wrapping_add(distance::added(distance));
     if target < catalans[size] {
         natural::shape(&catalans, target, entries);
         return Ok(());

@@ -1,5 +1,6 @@
 -- `permutation::move_by` after the check: whether the number and the distance come to a tree permutation's, and what is left.
 -- Assumes nothing.
+use Rattle.std.proofs.Common.{refl}
 use Rattle.permutation.proofs.Answers.{answers}
 use Rattle.permutation.proofs.Sums.{done_within, sum_below, sum_done, sum_left, sum_refused, sum_kept}
 use Rattle.permutation.proofs.move_by.Goals as goal
@@ -14,8 +15,8 @@ shape-requires c =
       c.table-catalans.ensures,
       done_within c.args.size p c.check.result checked done,
       sum_below c.args.size p c.check.result checked done c.table-catalans.result c.table-catalans.ensures c.args.distance c.ranges.distance
-          c.number-number.result c.added.result c.wrapping_add_u64-target.result c.number-number.ensures c.added.ensures
-          c.wrapping_add_u64-target.ensures.value c.if-target-catalans.true,
+          c.number-number.result c.added.result _ c.number-number.ensures c.added.ensures
+          refl c.if-target-catalans.true,
     )
 
 pub returns-then-target-catalans-clause-result_value : goal.returns-then-target-catalans-clause-result_value
