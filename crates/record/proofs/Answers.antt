@@ -12,7 +12,7 @@
 --     answers                                  these and the laws of any call, for `search`
 -- Assumes nothing.
 use mathlib.Core.Path.{◌≡◌, refl, sym, ap, ◌∙◌}
-use mathlib.Core.Bool.{true, false}
+use mathlib.Core.Bool.{true}
 use mathlib.Core.List.{List}
 use Prim.Native.Nat.{ℕ, ◌+◌, ◌*◌, ◌/◌, ◌≤◌, ◌<◌}
 use native.Mathlib.Omega.{arith}
@@ -30,6 +30,7 @@ use Rattle.shape.specs.declared.Refusal.{Refusal}
 use Rattle.shape.specs.declared.Refusal.TheVariants.{Length, Shape}
 use Rattle.std.specs.Prelude.{Ok, Err}
 use Rattle.std.specs.Result.{is_err}
+use Rattle.std.proofs.lemmas.Bool.{true≢false}
 use Rattle.shape.proofs.Tests.{patterns_tested}
 use Rattle.shape.proofs.Checks.{checked_done, done_formed}
 use Rattle.shape.proofs.Answers.{answered, then_refused, room_told, room_long, check_told}
@@ -39,9 +40,6 @@ use Rattle.record.specs.Record.{size_in, places_in}
 use Rattle.record.specs.Calls.{layout_check, places_check, read_check, read_reply, read_end}
 use Rattle.record.proofs.Refusals.{Laid, layout_done, read_length, read_shape, read_passes}
 use Rattle.record.proofs.Parts.{size_found}
-
-true_not_false : true ≡ false → ⊥
-true_not_false e = cc
 
 pub bytes_long : (n m : ℕ) (r : Outcome) → r ≡ room_of record_length n m → r ≡ Ok tt → m ≡ record_length n
 bytes_long n m = room_long record_length n m
@@ -118,7 +116,7 @@ module _ (r : List ℕ) (n m : ℕ) (done : layout_check r ≡ Ok tt) (size : n 
       no_pattern h =
           let accepted : Feasible (size_in r) (places_in r) → o ≡ Ok tt =
           λ formed. sym told ∙ (checked_done patterns patterns_tested (size_in r) (places_in r)).1 (laid_out.0, formed) in
-          (read_shape r q).1 (laid_out.0, laid_out.1, fits, λ formed. true_not_false (h ∙ ap is_err (accepted formed)))
+          (read_shape r q).1 (laid_out.0, laid_out.1, fits, λ formed. true≢false (h ∙ ap is_err (accepted formed)))
 
       pub shape_said : true ≡ is_err o → refused Shape ≡ read_reply r q
       unfolding read_reply

@@ -5,60 +5,39 @@ ghost use Rattle.shape.specs.Check.{Sized, record_length};
 ghost use Rattle.record.specs.Bits.{value, bits_of};
 ghost use Rattle.record.specs.Record.{record_of};
 
-// The record of a pattern: a byte for the size and the mark, and one for each eight places.
+// The record of a pattern: a byte for the size and the mark, and one for each eight places, with zeros behind the last one.
+#[tactic(auto, using(crate::proofs::Packed::packs))]
 pub(crate) fn pack(size: usize, places: &[u8], bytes: &mut [u8])
     requires { Sized size × Feasible size places.now × (length bytes.old ≡ record_length size) }
     ensures { bytes.new ≡ record_of size places.now }
 {
     bytes[0] = (4 * size) as u8;
-    for i in 1..bytes.len() {
-        bytes[i] = byte(places, 8 * (i - 1));
+    let whole = places.len() / 8;
+    for i in 0..whole {
+        bytes[i + 1] = byte(&places[8 * i..8 * i + 8]);
+    }
+    if whole + 1 < bytes.len() {
+        let rest = &places[8 * whole..];
+        bytes[whole + 1] = byte(rest) << (8 - rest.len());
     }
 }
 
-// The eight places from `from` on as a byte; behind the last place there are zeros. What the places are is asked of three functions in the same
-// words: a type for such places would be made here and taken apart in the next line.
-fn byte(places: &[u8], from: usize) -> u8
-    requires from_in_bounds { from ≤ length places.now }
-    requires by_index { (i : ℕ) → i < length places.now → get_or places.now i 0 ≤ 1 }
-    ensures { result ≡ value (take 8 (drop from places.now ++ replicate 8 0)) }
-{
-    if from + 8 <= places.len() {
-        whole_byte(places, from)
-    } else {
-        last_byte(places, from)
-    }
-}
-
-// Where all eight are there, no place is asked whether it is one of them.
+// The number that up to eight places write.
 #[tactic(auto, using(crate::proofs::Packed::reads))]
-fn whole_byte(places: &[u8], from: usize) -> u8
-    requires from_in_bounds { from + 8 ≤ length places.now }
+fn byte(places: &[u8]) -> u8
+    requires places_len { length places.now ≤ 8 }
     requires by_index { (i : ℕ) → i < length places.now → get_or places.now i 0 ≤ 1 }
-    ensures { result ≡ value (take 8 (drop from places.now ++ replicate 8 0)) }
+    ensures { result ≡ value places.now }
 {
     let mut byte = 0;
-    for i in from..from + 8 {
-        byte = 2 * byte + places[i];
-    }
-    byte
-}
-
-// The byte in which the pattern ends.
-#[tactic(auto, using(crate::proofs::Packed::reads))]
-fn last_byte(places: &[u8], from: usize) -> u8
-    requires from_in_bounds { from ≤ length places.now }
-    requires by_index { (i : ℕ) → i < length places.now → get_or places.now i 0 ≤ 1 }
-    ensures { result ≡ value (take 8 (drop from places.now ++ replicate 8 0)) }
-{
-    let mut byte = 0;
-    for i in from..from + 8 {
-        byte = 2 * byte + places.get(i).copied().unwrap_or(0);
+    for place in places {
+        byte = 2 * byte + place;
     }
     byte
 }
 
 // The places of a record, as many as there is room for: eight from each byte after the first.
+// By index: after a loop over `iter_mut` the proof knows how many places there are, and not what was written to them.
 pub(crate) fn unpack(bytes: &[u8], places: &mut [u8])
     requires { 8 + length places.old ≤ 8 * length bytes.now }
     ensures { places.new ≡ take (length places.old) (drop 8 (bits_of bytes.now)) }

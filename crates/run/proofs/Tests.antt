@@ -12,7 +12,7 @@
 use mathlib.Core.Path.{◌≡◌, refl, sym, ap, ◌∙◌}
 use mathlib.Core.Logic.Iff
 use mathlib.Core.Logic.{◌↔◌}
-use mathlib.Core.Bool.{Bool, true, false, cond}
+use mathlib.Core.Bool.{Bool, true, false}
 use mathlib.Core.List.{List}
 use Prim.Native.Nat.{ℕ, ◌+◌, ◌-◌, ◌*◌, ◌≤◌, ◌<◌}
 use native.Mathlib.Nat.{sub-zero}
@@ -36,6 +36,7 @@ use Rattle.shape.specs.declared.Refusal.{Refusal}
 use Rattle.shape.specs.declared.Refusal.TheVariants.{Size, Range}
 use Rattle.std.specs.Prelude.{Ok, Err}
 use Rattle.std.specs.Result.{is_err, result_eq}
+use Rattle.std.proofs.lemmas.Bool.{true≢false}
 use Rattle.shape.proofs.Tests.{equal_means, patterns_tested}
 use Rattle.shape.proofs.Replies.{refusal_least, told_value, told_refused}
 use Rattle.shape.proofs.LocalNumbers.{local_lawful}
@@ -44,9 +45,6 @@ use Rattle.run.specs.State.{state_places, places_at, same, belong}
 use Rattle.run.specs.Calls.{start_check}
 use Rattle.run.proofs.Places.{test_fails, same_means, same_other, range_means, zeros_from, places_at_next, places_at_end, padded_means}
 use Rattle.run.proofs.States.{start_done, belong_means}
-
-true_not_false : true ≡ false → ⊥
-true_not_false e = let z : ◌≡◌ {A = ℕ} 0 1 = ap (λ (t : Bool). cond t 0 1) e in omega arith
 
 -- two tests that pass alike
 alike : (t u : Bool) → (t ≡ true) ↔ (u ≡ true) → t ≡ u
@@ -200,7 +198,7 @@ module _ (n k : ℕ) (s : Sized n) (below : k < C n) (p : List ℕ) (r : Numbere
 
 pub range_done : (o : Outcome) → false ≡ is_err o → o ≡ Ok tt
 range_done (Ok _) h = refl
-range_done (Err f) h = absurd (true_not_false (sym h))
+range_done (Err f) h = absurd (true≢false (sym h))
 
 module _ (n k end : ℕ) (p : List ℕ) where
   module _ (o : Outcome) (e : o ≡ start_check n k end) where
@@ -232,7 +230,7 @@ module _ (n k end : ℕ) (p : List ℕ) where
         parts = rw (places_at_next n k end (omega (arith, ranges.1))) (padded_means n k (range_below n k end o e h other) p)
 
         pub belong_behind : v ≡ false → v ≡ belong n k end p
-        belong_behind h = h ∙ sym (test_fails (belong_means n k end p) (λ (_, _, _, q). true_not_false (sym (zeros.1 (parts.0 q).1) ∙ h)))
+        belong_behind h = h ∙ sym (test_fails (belong_means n k end p) (λ (_, _, _, q). true≢false (sym (zeros.1 (parts.0 q).1) ∙ h)))
 
         -- b is whether the places before were found to be the pattern
         pub belong_found : v ≡ true → (b : Bool) → b ≡ same (take (2 * n) p) (local_pattern n k) → b ≡ belong n k end p

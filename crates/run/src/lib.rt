@@ -42,8 +42,8 @@ pub enum Progress {
     Refused(Refusal),
 }
 
-// What a step answers: the run moved on, and the pattern that it handed out with its change, all 0 where it handed out none. The clauses speak of
-// each of these at the end and at a refusal too, so none is held by a case of `Progress`.
+// What a step answers: the run moved on, and the pattern that it handed out with its change, all 0 where it handed out none. The clauses
+// `run_value`, `places_value` and `change_value` speak of these at the end and at a refusal too, so none is held by a case of `Progress`.
 #[derive(Clone, Copy)]
 pub struct Stepped {
     pub progress: Progress,

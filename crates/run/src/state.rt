@@ -67,7 +67,8 @@ impl Run {
     }
 }
 
-// Whether all places from `from` on are 0. They are added up, since a branch at each would cost more than the rest.
+// Whether all places from `from` on are 0. They are added up, since a branch at each would cost more than the rest, and in a loop, since with
+// `map` and `sum` it stays open that the sum fits.
 #[tactic(auto, using(crate::proofs::Tests::summed))]
 fn clear(places: &[u8], from: usize) -> bool
     requires { (from ≤ length places.now) × (length places.now ≡ state_places) }
