@@ -127,9 +127,6 @@ module _ {n end : ℕ} {places entries depths digits : List ℕ} {width c k : �
   pub holds_shallow : get_or depths (2 * n) 0 < 100
   holds_shallow = rw holds_depth (shape_depth n k h.small below places h.pattern)
 
-  pub holds_deep : Fits w64 (get_or depths (2 * n) 0)
-  holds_deep = record { fits = omega (arith, holds_shallow) }
-
   pub holds_some : 1 ≤ length entries
   holds_some = shape_some n k h.small below places h.pattern entries h.labels h.some
 
@@ -156,9 +153,6 @@ module _ {n end : ℕ} {places entries depths digits : List ℕ} {width c k : �
   spare =
       omega
       (arith, number_short n k h.small below, ap length h.number, length-take-le width digits (omega (arith, h.held, h.narrow)))
-
-  pub holds_width : width < length digits
-  holds_width = omega (arith, spare, h.held)
 
   -- o is what the step answered
   pub holds_more : (k + 1 ≡ end → ⊥) → (o : Option ℕ) → o ≡ nonzero (next_change n places) → o ≡ Some (change n (k + 1))

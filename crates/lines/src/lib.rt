@@ -9,15 +9,16 @@ ghost use Rattle.shape.specs.Reply.{refusal_number, numbered_reply};
 ghost use Rattle.run.specs.Calls.{progress};
 ghost use Rattle.text.specs.Text.{written};
 ghost use Rattle.lines.specs.Calls.{refusing, open_sheet, walks, began as has_begun, over as is_over, keeps};
-ghost use Rattle.lines.specs.Calls.{fill_check, piece_text, sheet_with, piece_sheet, fill_reply, fill_sheet, fill_end};
+ghost use Rattle.lines.specs.Calls.{fill_check, piece_text, piece_sheet, fill_reply, fill_sheet, fill_end};
 
 use run::{Progress, Run};
 use shape::Refusal;
 
+// Numbers and flags, since programs in C hold a sheet too, and no option crosses to C.
 #[repr(C)]
 #[derive(Clone, Copy)]
 pub struct Sheet {
-    // the number of the refusal that the NO line tells, 0 for none: programs in C hold a sheet, and no option crosses to C
+    // the number of the refusal that the NO line tells, 0 for none
     pub refusal: u64,
     // whether the first line has been handed out
     pub opened: bool,
@@ -44,11 +45,11 @@ impl Sheet {
         ensures { result ≡ open_sheet input.now }
     {
         let Some(asked) = text::read(input) else {
-            return refused(Refusal::Input);
+            return Sheet::refused(Refusal::Input);
         };
         let started = Run::start(asked.size as usize, asked.first, asked.end);
         match started.outcome {
-            Err(refusal) => refused(refusal),
+            Err(refusal) => Sheet::refused(refusal),
             Ok(()) => Sheet {
                 refusal: 0,
                 opened: false,
@@ -66,56 +67,108 @@ impl Sheet {
         ensures sheet_value { result.sheet ≡ fill_sheet self (length out.old) }
         ensures out_after { out.new ≡ fill_end self out.old }
     {
-        match check(self, out.len()) {
+        match self.check(out.len()) {
             Err(refusal) => Filled {
                 bytes: Err(refusal),
                 sheet: self,
             },
-            Ok(()) => hand_out(self, out),
+            Ok(()) => self.hand_out(out),
         }
     }
-}
 
-// The sheet that only tells a refusal.
-#[tactic(auto, using(crate::proofs::Answers::answers))]
-fn refused(refusal: Refusal) -> Sheet
-    ensures { result ≡ refusing (refusal_number refusal) }
-{
-    Sheet {
-        refusal: refusal.number(),
-        opened: false,
-        ended: false,
-        first: 0,
-        run: Run::NONE,
+    // The sheet that only tells a refusal.
+    #[tactic(auto, using(crate::proofs::Answers::answers))]
+    fn refused(refusal: Refusal) -> Sheet
+        ensures { result ≡ refusing (refusal_number refusal) }
+    {
+        Sheet {
+            refusal: refusal.number(),
+            opened: false,
+            ended: false,
+            first: 0,
+            run: Run::NONE,
+        }
     }
-}
 
-// What is asked before a piece is handed out.
-#[tactic(auto, using(crate::proofs::Tests::tests))]
-fn check(sheet: Sheet, room: usize) -> Result<(), Refusal>
-    ensures { result ≡ fill_check sheet room }
-{
-    if room < 256 {
-        return Err(Refusal::Length);
+    // What is asked before a piece is handed out.
+    #[tactic(auto, using(crate::proofs::Tests::tests))]
+    fn check(self, room: usize) -> Result<(), Refusal>
+        ensures { result ≡ fill_check self room }
+    {
+        if room < 256 {
+            return Err(Refusal::Length);
+        }
+        if !self.belongs() {
+            return Err(Refusal::State);
+        }
+        Ok(())
     }
-    if !belongs(sheet) {
-        return Err(Refusal::State);
-    }
-    Ok(())
-}
 
-// Whether the parts of a sheet belong together.
-#[tactic(auto, using(crate::proofs::Tests::tests))]
-fn belongs(sheet: Sheet) -> bool
-    ensures { result ≡ keeps sheet }
-{
-    if sheet.refusal != 0 {
-        return sheet.refusal <= 11;
+    // Whether the parts of a sheet belong together.
+    #[tactic(auto, using(crate::proofs::Tests::tests))]
+    fn belongs(self) -> bool
+        ensures { result ≡ keeps self }
+    {
+        if self.refusal != 0 {
+            return self.refusal <= 11;
+        }
+        let run = self.run;
+        can_go_on(run)
+            && began(self.opened, self.first, run.next)
+            && over(self.ended, run.next, run.end)
     }
-    let run = sheet.run;
-    can_go_on(run)
-        && began(sheet.opened, sheet.first, run.next)
-        && over(sheet.ended, run.next, run.end)
+
+    // The next piece. The run's last line, its first, or a line that tells a refusal is a piece of its own.
+    #[tactic(auto, using(crate::proofs::Answers::pieces))]
+    fn hand_out(self, out: &mut [u8]) -> Filled
+        requires { fill_check self (length out.old) ≡ Ok tt }
+        ensures bytes_value { numbered_reply result.bytes ≡ fill_reply self (length out.old) }
+        ensures sheet_value { result.sheet ≡ piece_sheet self (length out.old) }
+        ensures out_after { out.new ≡ written out.old 0 (piece_text self (length out.old)) }
+    {
+        let run = self.run;
+        if self.ended {
+            return handed(0, self);
+        }
+        if self.refusal != 0 {
+            let bytes = text::put_no(self.refusal, out);
+            return handed(
+                bytes,
+                Sheet {
+                    ended: true,
+                    ..self
+                },
+            );
+        }
+        if !self.opened {
+            let bytes = text::put_run(run.size, self.first, run.end, out);
+            return handed(
+                bytes,
+                Sheet {
+                    opened: true,
+                    ..self
+                },
+            );
+        }
+        if run.next == run.end {
+            let bytes = text::put_end(run.end - self.first, run.figure, out);
+            return handed(
+                bytes,
+                Sheet {
+                    ended: true,
+                    ..self
+                },
+            );
+        }
+        let listed = shapes::list(run, out);
+        handed(
+            listed.bytes,
+            Sheet {
+                run: listed.run,
+                ..self
+            },
+        )
+    }
 }
 
 // Whether a run could step, or is done.
@@ -139,58 +192,6 @@ fn over(ended: bool, next: u64, end: u64) -> bool
     ensures { result ≡ is_over ended next end }
 {
     !ended || next == end
-}
-
-// The next piece. The run's last line, its first, or a line that tells a refusal is a piece of its own.
-#[tactic(auto, using(crate::proofs::Answers::pieces))]
-fn hand_out(sheet: Sheet, out: &mut [u8]) -> Filled
-    requires { fill_check sheet (length out.old) ≡ Ok tt }
-    ensures bytes_value { numbered_reply result.bytes ≡ fill_reply sheet (length out.old) }
-    ensures sheet_value { result.sheet ≡ piece_sheet sheet (length out.old) }
-    ensures out_after { out.new ≡ written out.old 0 (piece_text sheet (length out.old)) }
-{
-    let run = sheet.run;
-    if sheet.ended {
-        return handed(0, sheet);
-    }
-    if sheet.refusal != 0 {
-        let bytes = text::put_no(sheet.refusal, out);
-        return handed(
-            bytes,
-            Sheet {
-                ended: true,
-                ..sheet
-            },
-        );
-    }
-    if !sheet.opened {
-        let bytes = text::put_run(run.size, sheet.first, run.end, out);
-        return handed(
-            bytes,
-            Sheet {
-                opened: true,
-                ..sheet
-            },
-        );
-    }
-    if run.next == run.end {
-        let bytes = text::put_end(run.end - sheet.first, run.figure, out);
-        return handed(
-            bytes,
-            Sheet {
-                ended: true,
-                ..sheet
-            },
-        );
-    }
-    let listed = shapes::list(run, out);
-    handed(
-        listed.bytes,
-        Sheet {
-            run: listed.run,
-            ..sheet
-        },
-    )
 }
 
 // What a piece of so many bytes answers, and the sheet that it leaves.

@@ -15,15 +15,15 @@ use mathlib.Core.Logic.{◌↔◌}
 use mathlib.Core.Bool.{Bool, true, false, cond, ◌&&◌, and-false}
 use mathlib.Core.List.{List, [], ◌∷◌, ◌++◌}
 use Prim.Native.Nat.{ℕ, ◌+◌, ◌-◌, ◌*◌, ◌^◌, ◌≤◌, ◌<◌}
-use native.Mathlib.Numerals.{add-one}
 use native.Mathlib.Omega.{arith}
 use lib.Dec.{ltb}
 use lib.ListN.{length, get_or, take, drop, drop_of_length-le}
-use lib.Seq.{take-append_seam, drop-cons, drop-append_seam}
+use lib.Seq.{take-append_seam, drop-append_seam}
 use borrow.Author.Tests.{lt-ltb, le-ltb, eq-eqb, ne_eqb}
 use Rattle.std.specs.Char.{is_ascii_digit}
 use Rattle.std.specs.List.{prefix_len, take_while}
 use Rattle.std.proofs.Common.{Some, None, ap₂, ◌≢◌, length-append, mul_comm}
+use Rattle.std.proofs.lemmas.List.{drop_more}
 use Rattle.std.proofs.lemmas.List.Folds.{length-prefix_len}
 use Rattle.std.proofs.lemmas.Option.{none-some, cond_some}
 use Rattle.shape.specs.Every.{All}
@@ -70,9 +70,6 @@ pub parts : (s : List ℕ) → front s ++ behind s ≡ s
 unfolding front behind
 parts [] = refl
 parts (b ∷ s) = digit_parts b (front s) (behind s) s (parts s) (digit b)
-
-cons_at : (s : List ℕ) (i : ℕ) → i < length s → drop i s ≡ get_or s i 0 ∷ drop (i + 1) s
-cons_at s i h = rw (add-one, drop-cons s i 0)
 
 -- ---- where they end
 
@@ -140,7 +137,7 @@ module _ (s : List ℕ) (v i : ℕ) (at : value_from v (drop i s) ≡ value s) w
   module _ (on : i < length s) where
     pub value_turn : value_from (v * 10 + (get_or s i 0 - 48)) (drop (i + 1) s) ≡ value s
     unfolding value_from
-    value_turn = rw (mul_comm v 10) (sym (ap (value_from v) (cons_at s i on)) ∙ at)
+    value_turn = rw (mul_comm v 10) (sym (ap (value_from v) (drop_more s i 0 on)) ∙ at)
 
     pub number_over : 2 ^ 64 ≤ v * 10 + (get_or s i 0 - 48) → None ≡ number_of s
     unfolding fits number_of

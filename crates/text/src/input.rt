@@ -30,7 +30,9 @@ pub fn read(input: &[u8]) -> Option<Asked>
 // The number that a text begins with, where the byte `end` stands behind it, and the text behind both.
 #[tactic(auto, using(crate::proofs::Reading::fields))]
 fn field(text: &[u8], end: u8) -> Option<(u64, &[u8])>
-    ensures { MatchOption result (is_field end text.now ≡ false) (λ part. (is_field end text.now ≡ true) × (part.0 ≡ value (front text.now)) × (part.1.now ≡ next text.now)) }
+    ensures { MatchOption result
+        (is_field end text.now ≡ false)
+        (λ part. (is_field end text.now ≡ true) × (part.0 ≡ value (front text.now)) × (part.1.now ≡ next text.now)) }
 {
     let (digits, behind) = split_digits(text);
     let (first, rest) = behind.split_first()?;

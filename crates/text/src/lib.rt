@@ -27,7 +27,8 @@ pub fn put_run(size: usize, first: u64, end: u64, out: &mut [u8]) -> usize
     line.at
 }
 
-// The line of a shape: its number's digits, its pattern, its permutation, its depth and its change.
+// The line of a shape: its number's digits, its pattern, its permutation, its depth and its change. `out` and `at` stand beside each other, and
+// not in a `Line`, since docs/CONTRACTS.md lists the call so.
 pub fn put_shape(
     digits: &[u8],
     places: &[u8],

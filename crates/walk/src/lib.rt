@@ -3,7 +3,7 @@
 // the functions of any slices that agree.
 #![tactic(auto)]
 
-ghost use Rattle.std.specs.Prelude.{◌≡◌, ◌++◌, map, ◌+◌, ◌-◌, ◌*◌, ◌≤◌, ◌<◌, max, length, get_or, take, drop, replicate};
+ghost use Rattle.std.specs.Prelude.{◌≡◌, ◌++◌, map, ◌+◌, ◌-◌, ◌*◌, ◌≤◌, ◌<◌, max, length, get_or, take, replicate};
 ghost use Rattle.catalan.specs.Count.{largest_size};
 ghost use Rattle.shape.specs.Tree.{permutation};
 ghost use Rattle.shape.specs.Form.{Feasible, pattern_tree};

@@ -6,32 +6,24 @@ use Rattle.text.proofs.put_shape.Goals as goal
 
 pub entries-requires : goal.entries-requires
 entries-requires c =
-    let room = entries_within c.args.out.now c.args.at c.args.digits.now c.args.places.now c.args.entries.now c.args.depth c.args.change
-    (c.requires.line_room_in_bounds, (c.requires.in_bounds, c.requires.by_index))
-    _ _ (c.text.ensures.at_after, c.text.ensures.out_after) _ _ (c.bits.ensures.at_after, c.bits.ensures.out_after) in
+    let room = entries_within _ _ _ _ _ c.args.depth c.args.change c.text.ensures
+    (c.requires.line_room_in_bounds, (c.requires.in_bounds, c.requires.by_index)) _ c.bits.ensures in
     (c.requires.in_bounds.0, room, c.requires.by_index.1)
 
 pub small-requires : goal.small-requires
 small-requires c =
-    let room = depth_within c.args.out.now c.args.at c.args.digits.now c.args.places.now c.args.entries.now c.args.depth c.args.change
-    (c.requires.line_room_in_bounds, (c.requires.in_bounds, c.requires.by_index))
-    _ _ (c.text.ensures.at_after, c.text.ensures.out_after) _ _ (c.bits.ensures.at_after, c.bits.ensures.out_after)
-    _ _ (c.entries.ensures.at_after, c.entries.ensures.out_after) in
+    let room = depth_within _ _ _ _ _ c.args.depth c.args.change c.text.ensures
+    (c.requires.line_room_in_bounds, (c.requires.in_bounds, c.requires.by_index)) _ c.bits.ensures _ c.entries.ensures in
     (c.requires.by_index.2, room)
 
 pub small-requires-2 : goal.small-requires-2
 small-requires-2 c =
-    let room = change_within c.args.out.now c.args.at c.args.digits.now c.args.places.now c.args.entries.now c.args.depth c.args.change
-    (c.requires.line_room_in_bounds, (c.requires.in_bounds, c.requires.by_index))
-    _ _ (c.text.ensures.at_after, c.text.ensures.out_after) _ _ (c.bits.ensures.at_after, c.bits.ensures.out_after)
-    _ _ (c.entries.ensures.at_after, c.entries.ensures.out_after) _ _ (c.small.ensures.at_after, c.small.ensures.out_after) in
+    let room = change_within _ _ _ _ _ c.args.depth c.args.change c.text.ensures
+    (c.requires.line_room_in_bounds, (c.requires.in_bounds, c.requires.by_index)) _ c.bits.ensures _ c.entries.ensures _ c.small.ensures in
     (c.requires.by_index.3, room)
 
 pub returns : goal.returns
 returns c =
-    let line = shape_put c.args.out.now c.args.at c.args.digits.now c.args.places.now c.args.entries.now c.args.depth c.args.change
-    (c.requires.line_room_in_bounds, (c.requires.in_bounds, c.requires.by_index))
-    _ _ (c.text.ensures.at_after, c.text.ensures.out_after) _ _ (c.bits.ensures.at_after, c.bits.ensures.out_after)
-    _ _ (c.entries.ensures.at_after, c.entries.ensures.out_after) _ _ (c.small.ensures.at_after, c.small.ensures.out_after)
-    _ _ (c.small-2.ensures.at_after, c.small-2.ensures.out_after) in
+    let line = shape_put _ _ _ _ _ c.args.depth c.args.change c.text.ensures
+    (c.requires.line_room_in_bounds, (c.requires.in_bounds, c.requires.by_index)) _ c.bits.ensures _ c.entries.ensures _ c.small.ensures _ c.small-2.ensures in
     record { value = line.0; out_after = search (rules, line) }

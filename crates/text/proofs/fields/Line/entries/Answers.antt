@@ -20,11 +20,12 @@ loop-entry-preserved c =
           (rw same at c.label.ensures.at_after) (rw same at c.label.ensures.out_after),
     )
 
-pub returns-clause-at_after : goal.returns-clause-at_after
-returns-clause-at_after c = search (rules, permutations)
-
-pub returns-clause-out_after : goal.returns-clause-out_after
-returns-clause-out_after c =
+pub returns : goal.returns
+returns c =
     let entries = c.args.entries.now in
     let done : length entries - 1 ≤ c.loop-entry.entry-index = omega (arith, length-take-le (length entries - 1) entries (omega arith)) in
-    entries_end _ _ _ c.requires.2 _ _ _ c.loop-entry.invariant.1 c.small.new.self.at _ done c.small.ensures.out_after
+    record {
+      same_buffer = search rules;
+      at_after = search (rules, permutations);
+      out_after = entries_end _ _ _ c.requires.2 _ _ _ c.loop-entry.invariant.1 c.small.new.self.at _ done c.small.ensures.out_after;
+    }

@@ -4,8 +4,10 @@ use Rattle.std.proofs.Common.{rules}
 use Rattle.text.proofs.Putting.{numbers}
 use Rattle.text.proofs.fields.Line.number.Goals as goal
 
-pub returns-clause-at_after : goal.returns-clause-at_after
-returns-clause-at_after c = search (rules, numbers)
-
-pub returns-clause-out_after : goal.returns-clause-out_after
-returns-clause-out_after c = search (rules, numbers)
+pub returns : goal.returns
+returns c =
+    record {
+      same_buffer = search rules;
+      at_after = search (rules, numbers);
+      out_after = search (rules, numbers);
+    }

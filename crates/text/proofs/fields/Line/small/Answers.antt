@@ -1,8 +1,13 @@
--- `text::fields::Line::small`: how many bytes the number has.
+-- `text::fields::Line::small`: how many bytes the number has, and which.
 -- Assumes nothing.
 use Rattle.std.proofs.Common.{rules}
 use Rattle.text.proofs.Putting.{smalls}
 use Rattle.text.proofs.fields.Line.small.Goals as goal
 
-pub returns-clause-at_after : goal.returns-clause-at_after
-returns-clause-at_after c = search (rules, smalls)
+pub returns : goal.returns
+returns c =
+    record {
+      same_buffer = search rules;
+      at_after = search (rules, smalls);
+      out_after = search (rules, smalls);
+    }
