@@ -11,6 +11,7 @@ use native.Mathlib.Omega.{arith}
 use lib.ListN.{length, take, replicate, length-append, length-replicate}
 use lib.Seq.{take_all, length-take-le}
 use borrow.Author.Tests.{eq-eqb, ne_eqb}
+use Rattle.std.proofs.lemmas.List.{nil_from_length}
 use Rattle.shape.specs.Every.{All}
 use Rattle.shape.specs.Reply.{Outcome}
 use Rattle.std.specs.Prelude.{Ok, Err}
@@ -111,10 +112,6 @@ module _ (s : Sheet) (room : ℕ) (kept : keeps s ≡ true) (fits : line_room �
 
 -- ---- so a sheet of which a buffer gets nothing stays as it is
 
-none : (text : List ℕ) → length text ≡ 0 → text ≡ []
-none [] e = refl
-none (x ∷ text) e = absurd (omega (arith, e))
-
 module _ (s : Sheet) (room : ℕ) where
   ended_still : (b : Bool) → s.ended ≡ b → fill_check s room ≡ Ok tt → length (piece_text s room) ≡ 0 → piece_sheet s room ≡ s
   unfolding piece_sheet
@@ -125,7 +122,7 @@ module _ (s : Sheet) (room : ℕ) where
 
   still : (o : Outcome) → fill_check s room ≡ o → (fill_reply s room).value ≡ 0 → (piece s room ≡ []) × (fill_sheet s room ≡ s)
   unfolding fill_reply fill_sheet
-  still (Ok _) e = rw e (λ nothing. (none _ nothing, ended_still s.ended refl e nothing))
+  still (Ok _) e = rw e (λ nothing. (nil_from_length _ nothing, ended_still s.ended refl e nothing))
   still (Err f) e = rw e (λ nothing. (refl, refl))
 
   silent_pieces : (fill_reply s room).value ≡ 0 → (m : ℕ) → pieces_from (replicate m room) s ≡ []
