@@ -1,6 +1,6 @@
 // A slice through every call: a pattern, or places that are refused.
-use crate::asked;
-use vectors::{Fields, Way};
+use crate::form::Pattern;
+use vectors::{Fields, Written};
 
 pub(crate) fn accepted(mut fields: Fields, held: &mut [u8]) {
     let size = fields.size();
@@ -11,10 +11,11 @@ pub(crate) fn accepted(mut fields: Fields, held: &mut [u8]) {
     let head = fields.text();
     let places = vectors::read(text, held);
     whole(size, places, Ok(()), number, depth, head, text);
-    asked::made(size, number, places.len(), Ok(()), text);
-    back_and_on(size, places, number, change);
+    let written = Written::done(places.len(), text);
+    vectors::made::<Pattern>(size, number, written, &mut [255; 72]);
+    vectors::back_and_on::<Pattern>(size, places, number, change);
     vectors::holds(b"is", places, text);
-    on_and_back(size, places, number);
+    vectors::on_and_back::<Pattern>(size, places, number, catalan::catalan(size));
     vectors::holds(b"is", places, text);
 }
 
@@ -26,12 +27,7 @@ pub(crate) fn refused(mut fields: Fields, held: &mut [u8]) {
     let places = vectors::read(text, held);
     let none = b"-";
     whole(size, places, refusal, 0, 0, none, none);
-    vectors::value(b"on", pattern::successor(size, places), refusal.and(Ok(0)));
-    vectors::value(
-        b"back",
-        pattern::predecessor(size, places),
-        refusal.and(Ok(0)),
-    );
+    vectors::both_ways::<Pattern>(size, places, refusal.and(Ok(0)));
     vectors::holds(b"is", places, text);
 }
 
@@ -46,56 +42,16 @@ fn whole(
     later: &[u8],
 ) {
     vectors::outcome(b"check", pattern::check(size, places), refusal);
-    vectors::value(
+    vectors::outcome(
         b"number",
         pattern::number(size, places),
         refusal.and(Ok(number)),
     );
-    vectors::value(
+    vectors::outcome(
         b"depth",
         pattern::depth(size, places),
         refusal.and(Ok(depth)),
     );
     vectors::holds(b"head", pattern::head(size, places), head);
     vectors::holds(b"later", pattern::later(size, places, places), later);
-}
-
-// The step back answers the pattern's change, and so does the step on that comes back to it. The first pattern has no step back, and no
-// call answers its change.
-fn back_and_on(size: usize, places: &mut [u8], number: u64, change: u64) {
-    if number == 0 {
-        step(Way::Back, size, places, Err(7), 0);
-        return;
-    }
-    step(Way::Back, size, places, Ok(change), number - 1);
-    step(Way::On, size, places, Ok(change), number);
-}
-
-// The step on answers the change of the pattern it comes to, and so does the step back from there. The last pattern has no step on.
-fn on_and_back(size: usize, places: &mut [u8], number: u64) {
-    let above = number.wrapping_add(1);
-    if above == catalan::catalan(size) {
-        step(Way::On, size, places, Err(6), number);
-        return;
-    }
-    let change = pattern::successor(size, places).unwrap_or(0);
-    vectors::word(b"on");
-    vectors::decimal(change);
-    vectors::value(b"number", pattern::number(size, places), Ok(above));
-    step(Way::Back, size, places, Ok(change), number);
-}
-
-// A step that expects a change or a refusal, and the number that the places have then.
-pub(crate) fn step(
-    way: Way,
-    size: usize,
-    places: &mut [u8],
-    expected: Result<u64, u64>,
-    number: u64,
-) {
-    match way {
-        Way::On => vectors::value(b"on", pattern::successor(size, places), expected),
-        Way::Back => vectors::value(b"back", pattern::predecessor(size, places), expected),
-    }
-    vectors::value(b"number", pattern::number(size, places), Ok(number));
 }

@@ -1,23 +1,9 @@
 // The cases that ask one call. A slice that is only written may hold anything before: the largest value here.
-use crate::through;
-use vectors::{Fields, Way};
+use crate::form::Permutation;
+use vectors::{Fields, Way, Written};
 
-pub(crate) fn shape(mut fields: Fields) {
-    let size = fields.size();
-    let number = fields.number();
-    let room = fields.size();
-    let refusal = fields.refusal();
-    made(size, number, room, refusal, fields.text());
-}
-
-pub(crate) fn made(size: usize, number: u64, room: usize, refusal: Result<(), u64>, text: &[u8]) {
-    let mut space = [65535u16; 36];
-    let Some(entries) = space.get_mut(..room) else {
-        vectors::word(b"WRONG, too many entries");
-        return;
-    };
-    vectors::outcome(b"shape", permutation::shape(size, number, entries), refusal);
-    vectors::holds(b"is", entries, text);
+pub(crate) fn shape(fields: Fields) {
+    vectors::shape::<Permutation>(fields, &mut [u16::MAX; 36]);
 }
 
 // The held permutation stepped to the one listed.
@@ -25,69 +11,31 @@ pub(crate) fn step(mut fields: Fields, held: &mut [u16], way: Way) {
     let mut listed = [0u16; 36];
     let text = fields.text();
     let size = vectors::read(text, &mut listed).len();
-    let Some(entries) = held.get_mut(..size) else {
-        vectors::word(b"WRONG, too many entries");
-        return;
-    };
-    let number = permutation::number(size, entries).unwrap_or(0);
-    through::step(way, size, entries, Ok(()), way.from(number));
-    vectors::holds(b"is", entries, text);
+    vectors::stepped::<Permutation>(way, size, held, size, (), text);
 }
 
 pub(crate) fn to_pattern(mut fields: Fields, held: &mut [u16]) {
     let size = fields.size();
     let entries = vectors::read(fields.text(), held);
-    let room = fields.size();
-    let refusal = fields.refusal();
-    as_places(size, entries, room, refusal, fields.text());
+    as_places(size, entries, Written::of(&mut fields));
 }
 
-pub(crate) fn as_places(
-    size: usize,
-    entries: &[u16],
-    room: usize,
-    refusal: Result<(), u64>,
-    text: &[u8],
-) {
-    let mut space = [255u8; 72];
-    let Some(places) = space.get_mut(..room) else {
-        vectors::word(b"WRONG, too many places");
-        return;
-    };
-    vectors::outcome(
-        b"to_pattern",
-        convert::to_pattern(size, entries, places),
-        refusal,
-    );
-    vectors::holds(b"is", places, text);
+pub(crate) fn as_places(size: usize, entries: &[u16], written: Written) {
+    written.by(b"to_pattern", &mut [255; 72], |places| {
+        convert::to_pattern(size, entries, places)
+    });
 }
 
 pub(crate) fn to_permutation(mut fields: Fields) {
     let size = fields.size();
     let pattern = fields.text();
-    let room = fields.size();
-    let refusal = fields.refusal();
-    as_entries(size, pattern, room, refusal, fields.text());
+    as_entries(size, pattern, Written::of(&mut fields));
 }
 
-pub(crate) fn as_entries(
-    size: usize,
-    pattern: &[u8],
-    room: usize,
-    refusal: Result<(), u64>,
-    text: &[u8],
-) {
+pub(crate) fn as_entries(size: usize, pattern: &[u8], written: Written) {
     let mut places = [0u8; 72];
-    let mut space = [65535u16; 36];
     let places = vectors::read(pattern, &mut places);
-    let Some(entries) = space.get_mut(..room) else {
-        vectors::word(b"WRONG, too many entries");
-        return;
-    };
-    vectors::outcome(
-        b"to_permutation",
-        convert::to_permutation(size, places, entries),
-        refusal,
-    );
-    vectors::holds(b"is", entries, text);
+    written.by(b"to_permutation", &mut [u16::MAX; 36], |entries| {
+        convert::to_permutation(size, places, entries)
+    });
 }

@@ -13,6 +13,7 @@
 #![tactic(auto)]
 
 mod asked;
+mod form;
 mod through;
 
 use vectors::{Fields, Way};

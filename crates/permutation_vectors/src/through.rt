@@ -2,7 +2,8 @@
 ghost use Rattle.std.specs.Prelude.{◌≤◌};
 
 use crate::asked;
-use vectors::{Fields, Way};
+use crate::form::Permutation;
+use vectors::{Fields, Written};
 
 pub(crate) fn accepted(mut fields: Fields, held: &mut [u16]) {
     let size = fields.size();
@@ -11,11 +12,12 @@ pub(crate) fn accepted(mut fields: Fields, held: &mut [u16]) {
     let pattern = fields.text();
     let entries = vectors::read(text, held);
     only_read(size, entries, Ok(()), number, pattern);
-    asked::as_entries(size, pattern, entries.len(), Ok(()), text);
-    asked::made(size, number, entries.len(), Ok(()), text);
-    back_and_on(size, entries, number);
+    let written = Written::done(entries.len(), text);
+    asked::as_entries(size, pattern, written);
+    vectors::made::<Permutation>(size, number, written, &mut [u16::MAX; 36]);
+    vectors::back_and_on::<Permutation>(size, entries, number, ());
     vectors::holds(b"is", entries, text);
-    on_and_back(size, entries, number);
+    vectors::on_and_back::<Permutation>(size, entries, number, catalan::catalan(size));
     vectors::holds(b"is", entries, text);
 }
 
@@ -27,20 +29,24 @@ pub(crate) fn refused(mut fields: Fields, held: &mut [u16]) {
     let entries = vectors::read(text, held);
     let unwritten = [b'x'; 72];
     only_read(size, entries, refusal, 0, &unwritten[..places_of(size)]);
-    vectors::outcome(b"on", permutation::successor(size, entries), refusal);
-    vectors::outcome(b"back", permutation::predecessor(size, entries), refusal);
+    vectors::both_ways::<Permutation>(size, entries, refusal);
     vectors::holds(b"is", entries, text);
 }
 
 // The calls that only read the entries; as many places are written as the pattern's text has letters.
 fn only_read(size: usize, entries: &[u16], refusal: Result<(), u64>, number: u64, pattern: &[u8]) {
     vectors::outcome(b"check", permutation::check(size, entries), refusal);
-    vectors::value(
+    vectors::outcome(
         b"number",
         permutation::number(size, entries),
         refusal.and(Ok(number)),
     );
-    asked::as_places(size, entries, pattern.len(), refusal, pattern);
+    let written = Written {
+        room: pattern.len(),
+        refusal,
+        text: pattern,
+    };
+    asked::as_places(size, entries, written);
 }
 
 // Twice the size; for a size that is refused anyway, as many as there are.
@@ -51,40 +57,4 @@ fn places_of(size: usize) -> usize
         1..=36 => 2 * size,
         _ => 72,
     }
-}
-
-// The first permutation has no step back.
-fn back_and_on(size: usize, entries: &mut [u16], number: u64) {
-    if number == 0 {
-        step(Way::Back, size, entries, Err(7), 0);
-        return;
-    }
-    step(Way::Back, size, entries, Ok(()), number - 1);
-    step(Way::On, size, entries, Ok(()), number);
-}
-
-// The last permutation has no step on.
-fn on_and_back(size: usize, entries: &mut [u16], number: u64) {
-    let above = number.wrapping_add(1);
-    if above == catalan::catalan(size) {
-        step(Way::On, size, entries, Err(6), number);
-        return;
-    }
-    step(Way::On, size, entries, Ok(()), above);
-    step(Way::Back, size, entries, Ok(()), number);
-}
-
-// A step that expects a refusal or none, and the number that the entries have then.
-pub(crate) fn step(
-    way: Way,
-    size: usize,
-    entries: &mut [u16],
-    expected: Result<(), u64>,
-    number: u64,
-) {
-    match way {
-        Way::On => vectors::outcome(b"on", permutation::successor(size, entries), expected),
-        Way::Back => vectors::outcome(b"back", permutation::predecessor(size, entries), expected),
-    }
-    vectors::value(b"number", permutation::number(size, entries), Ok(number));
 }

@@ -34,6 +34,6 @@ pub(crate) fn read(mut fields: Fields) {
 }
 
 pub(crate) fn unpacked(bytes: &[u8], places: &mut [u8], size: Result<u64, u64>, text: &[u8]) {
-    vectors::value(b"read", record::read(bytes, places), size);
+    vectors::outcome(b"read", record::read(bytes, places), size);
     vectors::holds(b"is", places, text);
 }

@@ -66,7 +66,7 @@ fn holds(places: [u8; 70], text: &[u8]) {
 
 // Expects of a step that refusal, or so many shapes handed out; and those places and that change. Answers the state that it left.
 pub(crate) fn after(got: Stepped, handed: Result<u64, u64>, text: &[u8], change: u64) -> Run {
-    vectors::value(b"handed", reply(got.progress), handed);
+    vectors::outcome(b"handed", reply(got.progress), handed);
     holds(got.places, text);
     vectors::equals(b"change", got.change, change);
     got.run

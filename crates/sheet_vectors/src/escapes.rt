@@ -1,5 +1,5 @@
 // An input as a line shows it: every byte as it stands, or by an escape.
-ghost use Rattle.std.specs.Prelude.{◌≡◌, ◌≤◌, ◌<◌, length};
+ghost use Rattle.std.specs.Prelude.{◌≤◌, ◌<◌, length};
 
 // A byte that stands so many times in the input, and the length of what shows it.
 #[derive(Clone, Copy)]

@@ -37,14 +37,6 @@ pub(crate) fn show(sheet: Sheet) {
     vectors::decimal(run.next);
     vectors::decimal(run.end);
     vectors::decimal(run.figure);
-    vectors::word(&run.places.map(letter));
+    vectors::items(&run.places);
     vectors::end_line();
-}
-
-// A digit, and x for any other place.
-fn letter(place: u8) -> u8 {
-    match place {
-        0..=9 => b'0' + place,
-        _ => b'x',
-    }
 }

@@ -2,7 +2,7 @@
 --     field line         the first field: the letters before the first space, or all
 --     behind line        what stands behind that space
 --     place_of letter    a digit's value, and 255 for any other letter
---     decimal_of text    the number whose digits the letters are
+--     decimal_of text    the number whose digits the letters are, any other letter counting as 255
 --     number_of line     the first field's number, the largest there is where it is larger than that
 --     distance_of text   the number with its sign: behind a minus, the opposite of those digits' number
 --     expected_of number what a call is expected to answer where that number stands for a refusal: 0 is none

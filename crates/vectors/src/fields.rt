@@ -62,7 +62,7 @@ impl<'a> Fields<'a> {
         self.number() as usize
     }
 
-    // The next field as what is expected of a call: done, or a refusal's number.
+    // The next field as what is expected of a call: done, or a refusal's number. No `Refusal`: a line may name a number that no refusal has.
     pub fn refusal(&mut self) -> Result<(), u64>
         ensures value { result ≡ expected_of (number_of self.old.rest.now) }
         ensures rest { self.new.rest.now ≡ behind self.old.rest.now }

@@ -14,7 +14,7 @@ pub struct Text {
 
 impl Text {
     // The text of these items.
-    pub fn of<T: Notation>(items: &[T]) -> Self {
+    pub(crate) fn of<T: Notation>(items: &[T]) -> Self {
         let mut text = Text {
             letters: [0; 216],
             count: 0,
@@ -26,7 +26,7 @@ impl Text {
         text
     }
 
-    pub fn letters(&self) -> &[u8] {
+    pub(crate) fn letters(&self) -> &[u8] {
         &self.letters[..self.count]
     }
 
@@ -58,7 +58,10 @@ pub fn read<'a, T: Notation>(text: &[u8], space: &'a mut [T]) -> &'a mut [T]
 
 // What is one item of such a slice.
 pub trait Notation: Copy {
-    // As `read`, for a text that shows at least one item.
+    // What the items are called.
+    const NAME: &'static [u8];
+
+    // As `read`, for any text but -.
     fn read<'a>(text: &[u8], space: &'a mut [Self]) -> &'a mut [Self]
         ensures { length result.now ≤ length space.old };
 
@@ -67,6 +70,8 @@ pub trait Notation: Copy {
 
 // Places.
 impl Notation for u8 {
+    const NAME: &'static [u8] = b"places";
+
     fn read<'a>(text: &[u8], space: &'a mut [u8]) -> &'a mut [u8] {
         let count = text.len().min(space.len());
         for (slot, letter) in space.iter_mut().zip(text) {
@@ -89,6 +94,8 @@ impl Notation for u8 {
 
 // Entries.
 impl Notation for u16 {
+    const NAME: &'static [u8] = b"entries";
+
     fn read<'a>(text: &[u8], space: &'a mut [u16]) -> &'a mut [u16] {
         let is_comma = |letter: &u8| *letter == b',';
         let count = text.split(is_comma).count().min(space.len());

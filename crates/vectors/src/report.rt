@@ -20,6 +20,10 @@ pub fn decimal(number: u64) {
     io::print_decimal(STDOUT_FILENO, number);
 }
 
+pub fn items<T: Notation>(items: &[T]) {
+    word(Text::of(items).letters());
+}
+
 pub fn end_line() {
     print(b"\n");
 }
@@ -40,41 +44,52 @@ pub fn are<T: Notation>(got: &[T], expected: &[u8]) -> bool {
     Text::of(got).letters() == expected
 }
 
-// Expects that number, or the refusal of that number.
-pub fn value(label: &[u8], got: Result<u64, Refusal>, expected: Result<u64, u64>) {
+// What a call answers that is done.
+pub trait Answer: Copy {
+    fn show(self);
+
+    // Where it is not the expected one, prints that.
+    fn compare(self, expected: Self);
+}
+
+impl Answer for () {
+    fn show(self) {
+        word(b"done");
+    }
+
+    fn compare(self, _: ()) {}
+}
+
+impl Answer for u64 {
+    fn show(self) {
+        decimal(self);
+    }
+
+    fn compare(self, expected: u64) {
+        if self != expected {
+            wrong(b"number", expected);
+        }
+    }
+}
+
+// Expects that answer, or the refusal of that number.
+pub fn outcome<T: Answer>(label: &[u8], got: Result<T, Refusal>, expected: Result<T, u64>) {
     word(label);
-    match (got, expected) {
-        (Ok(number), Ok(other)) => {
-            decimal(number);
-            if number != other {
-                wrong(b"number", other);
+    match got {
+        Ok(answer) => {
+            answer.show();
+            match expected {
+                Ok(other) => answer.compare(other),
+                Err(refusal) => wrong(b"refusal", refusal),
             }
         }
-        (Ok(number), Err(refusal)) => {
-            decimal(number);
-            wrong(b"refusal", refusal);
-        }
-        (Err(refusal), _) => no(refusal, expected.err()),
+        Err(refusal) => no(refusal, expected.err()),
     }
 }
 
 // Expects that number.
 pub fn equals(label: &[u8], got: u64, expected: u64) {
-    value(label, Ok(got), Ok(expected));
-}
-
-// Expects done, or the refusal of that number.
-pub fn outcome(label: &[u8], got: Result<(), Refusal>, expected: Result<(), u64>) {
-    word(label);
-    match got {
-        Ok(()) => {
-            word(b"done");
-            if let Err(refusal) = expected {
-                wrong(b"refusal", refusal);
-            }
-        }
-        Err(refusal) => no(refusal, expected.err()),
-    }
+    outcome(label, Ok(got), Ok(expected));
 }
 
 // A refusal, where one is expected that one; 0 is none.

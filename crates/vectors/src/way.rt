@@ -10,8 +10,16 @@ pub enum Way {
 }
 
 impl Way {
+    // What stands before the answer of such a step.
+    pub(crate) fn label(self) -> &'static [u8] {
+        match self {
+            Way::On => b"on",
+            Way::Back => b"back",
+        }
+    }
+
     // The number that the step comes to.
-    pub fn from(self, number: u64) -> u64
+    pub fn leads_from(self, number: u64) -> u64
         ensures { result ≡ number_from self number }
     {
         match self {
