@@ -127,18 +127,16 @@ impl Sheet {
         ensures out_after { out.new ≡ written out.old 0 (piece_text self (length out.old)) }
     {
         let run = self.run;
+        let ended = Sheet {
+            ended: true,
+            ..self
+        };
         if self.ended {
             return handed(0, self);
         }
         if self.refusal != 0 {
             let bytes = text::put_no(self.refusal, out);
-            return handed(
-                bytes,
-                Sheet {
-                    ended: true,
-                    ..self
-                },
-            );
+            return handed(bytes, ended);
         }
         if !self.opened {
             let bytes = text::put_run(run.size, self.first, run.end, out);
@@ -152,13 +150,7 @@ impl Sheet {
         }
         if run.next == run.end {
             let bytes = text::put_end(run.end - self.first, run.figure, out);
-            return handed(
-                bytes,
-                Sheet {
-                    ended: true,
-                    ..self
-                },
-            );
+            return handed(bytes, ended);
         }
         let listed = shapes::list(run, out);
         handed(

@@ -12,14 +12,21 @@ pub(crate) fn whole<T: Form>(mut list: Fields, space: &mut [T]) {
     vectors::decimal(past);
 }
 
-// How many moves within the list come out. Counted in loops and not by chains, since a move that does not come out is printed on the way.
+// How many moves within the list come out.
 fn moves<T: Form>(size: usize, list: Fields, space: &mut [T]) -> u64 {
     let mut right = 0u64;
     for (i, from) in list.enumerate() {
-        for (j, to) in list.enumerate() {
-            let comes_out = arrives(size, between(i, j), from, Ok(()), to, space);
-            right = right.wrapping_add(u64::from(comes_out));
-        }
+        right = right.wrapping_add(moves_from(size, i, from, list, space));
+    }
+    right
+}
+
+// From number i. In loops, since a move that does not come out is printed on the way.
+fn moves_from<T: Form>(size: usize, i: usize, from: &[u8], list: Fields, space: &mut [T]) -> u64 {
+    let mut right = 0u64;
+    for (j, to) in list.enumerate() {
+        let comes_out = arrives(size, between(i, j), from, Ok(()), to, space);
+        right = right.wrapping_add(u64::from(comes_out));
     }
     right
 }
