@@ -4,7 +4,7 @@
 --     range_doubled, range_room, range_below                             and what follows: 2n places fit, and the first number is one of the size
 --     Summed, summed_none, summed_next, summed_all       places from one on, added up; the sum is 0 exactly where all of them are
 --     place_fits_lem, sum_fits             and fits its width
---     number_other, number_same, number_compared      places are the pattern with a number exactly where they are a pattern and have it
+--     number_other, number_same            places are the pattern with a number exactly where they are a pattern and have it
 --     range_done                           no refusal was found
 --     belong_range, belong_end, belong_behind, belong_found              its tests, in their order
 --     tests                                the laws that the code meets, for `search`
@@ -35,7 +35,7 @@ use Rattle.shape.specs.Calls.{number_reply}
 use Rattle.shape.specs.declared.Refusal.{Refusal}
 use Rattle.shape.specs.declared.Refusal.TheVariants.{Size, Range}
 use Rattle.std.specs.Prelude.{Ok, Err}
-use Rattle.std.specs.Result.{is_err, result_eq}
+use Rattle.std.specs.Result.{is_err}
 use Rattle.std.proofs.lemmas.Bool.{true≢false}
 use Rattle.shape.proofs.Tests.{equal_means, patterns_tested}
 use Rattle.shape.proofs.Replies.{refusal_least, told_value, told_refused}
@@ -185,14 +185,6 @@ module _ (n k : ℕ) (s : Sized n) (below : k < C n) (p : List ℕ) (r : Numbere
         λ q. sym ((local_lawful n).shape_number p (done_formed patterns patterns_tested n p done)) ∙ ap (local_pattern n) (sym found ∙ q),
         λ q. found ∙ ap local_number q ∙ (local_lawful n).number_shape k below,
       ) (Iff.symm (same_means p (local_pattern n k)))))
-
-  -- b is whether it was found to be the number k
-  pub number_compared : (equal : Refusal → Refusal → Bool) (b : Bool) → b ≡ result_eq eqb equal r (Ok k) → b ≡ same p (local_pattern n k)
-  number_compared equal b h = h ∙ by_answer r refl
-    where
-      by_answer : (x : Numbered) → r ≡ x → result_eq eqb equal x (Ok k) ≡ same p (local_pattern n k)
-      by_answer (Ok v) q = number_same v q
-      by_answer (Err f) q = number_other f q
 
 -- ---- the parts of a state
 

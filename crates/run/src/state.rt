@@ -82,10 +82,13 @@ fn clear(places: &[u8], from: usize) -> bool
 }
 
 // Whether the places are the pattern with that number.
-#[tactic(auto, using(crate::proofs::Tests::tests))]
+#[tactic(auto, using(crate::proofs::Tests::number_same))]
 fn numbered(size: usize, number: u64, places: &[u8]) -> bool
     requires { Sized size × (number < C size) }
     ensures { result ≡ same places.now (local_pattern size number) }
 {
-    pattern::number(size, places) == Ok(number)
+    match pattern::number(size, places) {
+        Ok(found) => found == number,
+        Err(_) => false,
+    }
 }

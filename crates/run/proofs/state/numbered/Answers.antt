@@ -1,7 +1,7 @@
--- `run::state::numbered`: no pattern, or one whose number is compared.
+-- `run::state::numbered`: places that are refused are not the pattern.
 -- Assumes nothing.
-use Rattle.run.proofs.Tests.{number_compared}
+use Rattle.run.proofs.Tests.{number_other}
 use Rattle.run.proofs.state.numbered.Goals as goal
 
-pub returns : goal.returns
-returns c = number_compared _ _ c.requires.0 c.requires.1 _ _ c.number.ensures _ _ c.eq.ensures
+pub returns-in-Err : goal.returns-in-Err
+returns-in-Err c = number_other _ _ c.requires.0 c.requires.1 _ _ c.number.ensures _ c.in-Err.is
