@@ -6,6 +6,7 @@
 --     grow_..                  upward from the row of z to the row of z + 1: entry a gains the entry before it
 --     shrink_..                downward from the row of z to the row of z - 1: entry a loses the entry before it
 --     row_start                the row of no zeros is 1 and then zeros
+--     fill_end_lem             a row that has grown as far as it should is the row that was asked for
 --     growing, shrinking       what the proofs of `grow` and `shrink` use
 -- Of a loop: _begin is what holds at its start, _turn what one turn makes, _end what it leaves; _fits and _holds, that a turn's sum or
 -- difference does not wrap.
@@ -118,6 +119,11 @@ module _ (z a : ℕ) (row : List ℕ) (e : row ≡ seam a (row_of z) (row_of (z 
 pub row_start : set (replicate 36 0) 0 1 ≡ row_of 0
 unfolding row_of tabulate ways binom binom_before
 row_start = refl
+
+-- ---- from row to row
+
+pub fill_end_lem : (z b : ℕ) (row : List ℕ) → row ≡ row_of b → b ≤ z → z ≤ b → row ≡ row_of z
+fill_end_lem z b row e h k = let there : b ≡ z = omega arith in e ∙ ap row_of there
 
 -- ---- what the proofs of `grow` and `shrink` use
 

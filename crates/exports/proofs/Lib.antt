@@ -1,3 +1,4 @@
 pub mod Replies
+pub mod Parts
 pub mod ReadBack
 pub mod Determined

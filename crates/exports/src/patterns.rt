@@ -72,7 +72,7 @@ pub extern "C" fn spire_pattern_depth(size: usize, places: &[u8]) -> Reply
 }
 
 // The head begins where the slice begins, so its length tells all of it.
-#[tactic(auto, unfolding(crate::specs::Crossing::head_told))]
+#[tactic(auto, using(crate::proofs::Parts::head_told_lem))]
 #[unsafe(no_mangle)]
 pub extern "C" fn spire_pattern_head(size: usize, places: &[u8]) -> Part
     ensures { result ≡ head_told size places.now }

@@ -1,4 +1,5 @@
 -- Laws of what reads a pattern from its first place on: `depth`, `head_length`, `before`, `first_above`.
+--     place_fits_lem     a place fits 64 bits
 --     place_open, place_turn      what a place does to the excess of ones over zeros
 --     Climbed            the excess and the largest excess so far
 --     depth_.., climbed_next      the walk by two places; top_open and pair_open, that its differences do not wrap
@@ -9,7 +10,7 @@
 --     climbing, heading, ordering      what the proofs of `depth`, `head_length` and `before` use
 -- Of a loop: _begin is what holds at its start, _turn or _next what one turn makes, _end what it leaves.
 -- Assumes nothing.
-use Rattle.std.proofs.Common.{◌≡◌, Option, Some, None, ℕ, zero, suc, ◌+◌, ◌-◌, ◌*◌, ◌<◌, ◌≤◌, max, Bool, true, false, ltb, leb, List, length, get_or, take, drop, refl, sym, ap, ◌∙◌, subst, inl, inr, le_of_eq, le_of_lt, eq-or-lt_of_le, add-zero, add-one, arith, take_all, take-suc, get_or-take, get_or-drop, length-drop, length-take-le, le-ltb, lt-ltb}
+use Rattle.std.proofs.Common.{◌≡◌, Option, Some, None, ℕ, zero, suc, ◌+◌, ◌-◌, ◌*◌, ◌<◌, ◌≤◌, max, Bool, true, false, ltb, leb, List, length, get_or, take, drop, refl, sym, ap, ◌∙◌, subst, inl, inr, le_of_eq, le_of_lt, eq-or-lt_of_le, add-zero, add-one, arith, take_all, take-suc, get_or-take, get_or-drop, length-drop, length-take-le, w64, Fits, le-ltb, lt-ltb}
 use Rattle.std.specs.Option.{MatchOption}
 use native.Mathlib.Decide.{dec_lt}
 use Rattle.shape.specs.Tree.{head, pattern}
@@ -25,12 +26,16 @@ use Rattle.shape.proofs.Excess.{excess, excess_first, excess_next, head_within, 
 
 -- ---- one place more
 
-module _ (n : ℕ) (p : List ℕ) (g : Feasible n p) (i : ℕ) (on : i < length p) (e : ℕ) (at : e ≡ excess p i) where
-  pub place_open : 1 ≤ e + 2 * get_or p i 0
-  place_open = omega (arith, excess_next g i on)
+module _ (n : ℕ) (p : List ℕ) (g : Feasible n p) (i : ℕ) (on : i < length p) where
+  pub place_fits_lem : Fits w64 (get_or p i 0)
+  place_fits_lem = record { fits = omega (arith, g.places i on) }
 
-  pub place_turn : e + 2 * get_or p i 0 - 1 ≡ excess p (i + 1)
-  place_turn = omega (arith, excess_next g i on)
+  module _ (e : ℕ) (at : e ≡ excess p i) where
+    pub place_open : 1 ≤ e + 2 * get_or p i 0
+    place_open = omega (arith, excess_next g i on)
+
+    pub place_turn : e + 2 * get_or p i 0 - 1 ≡ excess p (i + 1)
+    place_turn = omega (arith, excess_next g i on)
 
 -- ---- the largest excess
 
@@ -59,10 +64,10 @@ depth_begin n p g =
 -- x and y are the next two places
 module _ (n : ℕ) (p : List ℕ) (m e k x y : ℕ) (g : Feasible n p) (c : Climbed n p m e k) (on : k < n)
     (first : x ≡ get_or p (2 * k) 0) (second : y ≡ get_or p (2 * k + 1) 0) where
-  first_on : 2 * k < length p
+  pub first_on : 2 * k < length p
   first_on = omega (arith, c.long)
 
-  second_on : 2 * k + 1 < length p
+  pub second_on : 2 * k + 1 < length p
   second_on = omega (arith, c.long)
 
   one_more : excess p (2 * k + 1) + 1 ≡ e + 2 * x

@@ -7,7 +7,8 @@
 --     value_.., digit_low          the number that the digits write: those so far and those still to come write it; a digit is no less than 0
 --     number_..                    the answer: none from 64 bits on, and the number at the end
 --     field_..                     whether a field reads: each test where it fails, and what is told where all pass
---     line_..                      whether a line reads: each field where it does not, a text that goes on, and a text that reads
+--     read_..                      a line that does not read: each field where it does not, and a text that goes on
+--     line_..                      what is then answered, and what for a text that reads
 -- What the proofs of the functions use, each a set: splits, forms, numbers, fields, lines.
 -- Assumes nothing.
 use mathlib.Core.Path.{◌≡◌, refl, sym, ap, ◌∙◌}
@@ -199,22 +200,35 @@ pub ruleset fields = (front_all, field_unformed, field_ended, field_other, field
 -- ---- the line: t, u and r are what stands behind its numbers
 
 module _ (s : List ℕ) where
+  unread : reads s ≡ false → None ≡ asked s
+  unfolding asked
+  unread h = rw h refl
+
+  pub read_size : field 32 s ≡ false → reads s ≡ false
+  unfolding reads
+  read_size h = rw h refl
+
   pub line_size : field 32 s ≡ false → None ≡ asked s
-  unfolding reads asked
-  line_size h = rw h refl
+  line_size h = unread (read_size h)
 
   module _ (t : List ℕ) (one : field 32 s ≡ true) (rest : t ≡ next s) where
+    pub read_first : field 32 t ≡ false → reads s ≡ false
+    unfolding reads
+    read_first h = rw (one, ap (field 32) (sym rest) ∙ h) refl
+
     pub line_first : field 32 t ≡ false → None ≡ asked s
-    unfolding reads asked
-    line_first h = rw (one, ap (field 32) (sym rest) ∙ h) refl
+    line_first h = unread (read_first h)
 
     module _ (u : List ℕ) (two : field 32 t ≡ true) (after : u ≡ next t) where
       third : u ≡ next (next s)
       third = after ∙ ap next rest
 
+      pub read_end_lem : field 10 u ≡ false → reads s ≡ false
+      unfolding reads
+      read_end_lem h = rw (one, ap (field 32) (sym rest) ∙ two, ap (field 10) (sym third) ∙ h) refl
+
       pub line_end : field 10 u ≡ false → None ≡ asked s
-      unfolding reads asked
-      line_end h = rw (one, ap (field 32) (sym rest) ∙ two, ap (field 10) (sym third) ∙ h) refl
+      line_end h = unread (read_end_lem h)
 
       module _ (r : List ℕ) (three : field 10 u ≡ true) (last : r ≡ next u) where
         rest_decides : reads s ≡ nothing r
@@ -233,9 +247,11 @@ module _ (s : List ℕ) where
         none_left [] none = refl
         none_left (x ∷ r') none = absurd (omega arith)
 
+        pub read_more : length r ≢ 0 → reads s ≡ false
+        read_more some = rest_decides ∙ some_left r some
+
         pub line_more : length r ≢ 0 → None ≡ asked s
-        unfolding asked
-        line_more some = rw (rest_decides ∙ some_left r some) refl
+        line_more some = unread (read_more some)
 
         pub line_done : (size first end : ℕ) → size ≡ value (front s) → first ≡ value (front t) → end ≡ value (front u)
             → length r ≡ 0 → Some (record { size = size; first = first; end = end }) ≡ asked s
