@@ -75,7 +75,7 @@ putting_begin true b n p long = record { long = long; written = simp (add-zero, 
 putting_begin false b n p long = record { long = long; written = simp sub-zero refl }
 
 module _ (b n i : ℕ) (p q : List ℕ) where
-  first_turn : Putting true b n i p q → i < n → Putting true b n (i + 1) (set p i (b + i + 1)) q
+  pub first_turn : Putting true b n i p q → i < n → Putting true b n (i + 1) (set p i (b + i + 1)) q
   first_turn m on =
       let rest : n - i ≡ suc (n - (i + 1)) = omega arith in
       let next : suc (b + i) ≡ b + (i + 1) = omega arith in
@@ -86,7 +86,7 @@ module _ (b n i : ℕ) (p q : List ℕ) where
             (rw (rest, first_label (b + i) (n - (i + 1)), add-one (b + i), next) refl);
       }
 
-  last_turn : Putting false b n i p q → i < n → Putting false b n (i + 1) (set p i (b + (length p - i))) q
+  pub last_turn : Putting false b n i p q → i < n → Putting false b n (i + 1) (set p i (b + (length p - i))) q
   last_turn m on =
       let rest : n - i ≡ suc (n - (i + 1)) = omega arith in
       let label : suc (b + (n - (i + 1))) ≡ b + (length p - i) = omega (arith, m.long) in

@@ -309,7 +309,7 @@ module _ (q p : List ℕ) (parts : List Unwritten) (i : ℕ) (u : Unwritten) (ne
     right_cast = record { fits = omega (arith, m.small) }
 
     module _ (rights : c - 1 - l ≡ 0 → ⊥) where
-      right_on : i + 1 + l < length p
+      pub right_on : i + 1 + l < length p
       right_on = omega (arith, m.within, s.within)
 
       pub right_held : i + 1 + l < 35

@@ -16,19 +16,19 @@ use Rattle.permutation.proofs.Labels.{clear_at, Marks, marks_none, marks_next}
 -- ---- the tests of an entry
 
 module _ (n : ℕ) (p : List ℕ) (k : ℕ) (on : k < length p) where
-  entry_zero : get_or p k 0 ≡ 0 → entry_fits n p k ≡ false
+  pub entry_zero : get_or p k 0 ≡ 0 → entry_fits n p k ≡ false
   entry_zero e = false_from_ne_true (entry_fits n p k) (λ t. omega (arith, ((entry_means n p k on).0 t).0.0))
 
-  entry_large : n < get_or p k 0 → entry_fits n p k ≡ false
+  pub entry_large : n < get_or p k 0 → entry_fits n p k ≡ false
   entry_large h = false_from_ne_true (entry_fits n p k) (λ t. omega (arith, ((entry_means n p k on).0 t).0.1))
 
   module _ (M : ℕ → Type 0) (m : Marks p k M) (some : get_or p k 0 ≡ 0 → ⊥) where
-    entry_seen : M (get_or p k 0) → entry_fits n p k ≡ false
+    pub entry_seen : M (get_or p k 0) → entry_fits n p k ≡ false
     entry_seen s =
         let (i, l, e) = m.place (get_or p k 0) some s in
         false_from_ne_true (entry_fits n p k) (λ t. ((entry_means n p k on).0 t).1 i l e)
 
-    entry_fits_lem : (M (get_or p k 0) → ⊥) → get_or p k 0 ≤ n → entry_fits n p k ≡ true
+    pub entry_fits_lem : (M (get_or p k 0) → ⊥) → get_or p k 0 ≤ n → entry_fits n p k ≡ true
     entry_fits_lem unseen h = (entry_means n p k on).1 ((omega arith, h), λ i l e. unseen (rw (← e) (m.entry i l)))
 
 -- ---- the pass
