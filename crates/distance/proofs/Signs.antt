@@ -1,10 +1,11 @@
--- What the code does with a sign, d being the distance.
---     read_fits, read_is              a distance on, read as a number: z is what the code reads back of it
+-- A distance by its sign, as code reckons with it that reads a number back of it, d being the distance. `added` and `end_past` need none of these
+-- today; docs/landings/T-01.md names them.
+--     read_fits, read_is              a distance on, read as a number: z is what is read back of it
 --     less_fits, less_is              what stands before a way back
 --     told                            what the test of the sign tells
 --     before_on                       what stands before a way back is no way back
---     added_back, added_on            what is added, of what was read
---     past_first, past_last           the end that a move can pass
+--     added_back, added_on            what `added` answers, of the number that was read
+--     past_first, past_last           the end that a move can pass, which `end_past` answers
 -- Assumes nothing.
 use mathlib.Core.Path.{◌≡◌, refl, sym, ap, ◌∙◌}
 use mathlib.Core.Bool.{Bool, true, false, true≢false}

@@ -2,6 +2,7 @@
 --     place_fits_lem     a place fits 64 bits
 --     place_open, place_turn      what a place does to the excess of ones over zeros
 --     Climbed            the excess and the largest excess so far
+--     first_on, second_on         where the next two places stand
 --     depth_.., climbed_next      the walk by two places; top_open and pair_open, that its differences do not wrap
 --     Inside             the excess so far, and that the head goes on as long as it is above 0
 --     head_..            the walk to the head's last place
@@ -61,23 +62,25 @@ depth_begin n p g =
       most = unfold largest in omega (arith, excess_first p);
     }
 
--- x and y are the next two places
-module _ (n : ℕ) (p : List ℕ) (m e k x y : ℕ) (g : Feasible n p) (c : Climbed n p m e k) (on : k < n)
-    (first : x ≡ get_or p (2 * k) 0) (second : y ≡ get_or p (2 * k + 1) 0) where
+-- where the next two places stand
+module _ (n : ℕ) (p : List ℕ) (g : Feasible n p) (k : ℕ) (on : k < n) where
   pub first_on : 2 * k < length p
-  first_on = omega (arith, c.long)
+  first_on = omega (arith, feasible_length n p g)
 
   pub second_on : 2 * k + 1 < length p
-  second_on = omega (arith, c.long)
+  second_on = omega (arith, feasible_length n p g)
 
+-- x and y are those places
+module _ (n : ℕ) (p : List ℕ) (m e k x y : ℕ) (g : Feasible n p) (c : Climbed n p m e k) (on : k < n)
+    (first : x ≡ get_or p (2 * k) 0) (second : y ≡ get_or p (2 * k + 1) 0) where
   one_more : excess p (2 * k + 1) + 1 ≡ e + 2 * x
-  one_more = omega (arith, c.at, excess_next g (2 * k) first_on)
+  one_more = omega (arith, c.at, excess_next g (2 * k) (first_on n p g k on))
 
   pair : 2 * k + 1 + 1 ≡ 2 * (k + 1)
   pair = omega arith
 
   two_more : excess p (2 * (k + 1)) + 2 ≡ e + 2 * (x + y)
-  two_more = omega (arith, one_more, rw pair at (excess_next g (2 * k + 1) second_on))
+  two_more = omega (arith, one_more, rw pair at (excess_next g (2 * k + 1) (second_on n p g k on)))
 
   pub top_open : 1 ≤ e + 2 * x + y
   top_open = omega (arith, one_more)
@@ -93,14 +96,14 @@ module _ (n : ℕ) (p : List ℕ) (m e k x y : ℕ) (g : Feasible n p) (c : Clim
   largest_more =
       let far = rw pair at (largest_next (excess p) (2 * k + 1)) in
       let near = largest_next (excess p) (2 * k) in
-      omega (arith, far, near, add-one (2 * k), c.most, one_more, two_more, g.places (2 * k + 1) second_on)
+      omega (arith, far, near, add-one (2 * k), c.most, one_more, two_more, g.places (2 * k + 1) (second_on n p g k on))
 
   pub climbed_next : (m' : ℕ) → m' ≡ max m top → Climbed n p m' (e + 2 * (x + y) - 2) (k + 1)
   climbed_next m' h =
       record {
         long = c.long;
         within = omega arith;
-        few = omega (arith, c.few, g.places (2 * k) first_on, g.places (2 * k + 1) second_on);
+        few = omega (arith, c.few, g.places (2 * k) (first_on n p g k on), g.places (2 * k + 1) (second_on n p g k on));
         at = omega (arith, two_more);
         most = h ∙ sym largest_more;
       }

@@ -4,7 +4,8 @@
 --     way_on, way_back          as the code's test tells it
 --     Putting on b n i p q      of the n labels after b the first i stand in p, and with those still to be written it is q
 --     putting_begin             so it is at the start, where q is the tree with which the way begins
---     putting_first, putting_last      and with one label more
+--     first_turn, last_turn     and with one label more, on and back
+--     putting_first, putting_last      the same, whichever way it is
 --     putting_end               none is still to be written: that is what stands there
 -- Assumes nothing.
 use mathlib.Core.Path.{◌≡◌, refl, sym, ap, ◌∙◌}

@@ -14,7 +14,7 @@
 --     shaping_all                       with every entry written, they are q
 --     count_some, count_within, number_within        what is asked for the left part's size
 --     left_within, left_cast, root_low, root_fits, root_cast      the left part's size, and the root's label
---     right_entry, rights_some, right_cast, right_held            the right part's count, and the entry where it waits
+--     right_entry, rights_some, right_cast, right_on, right_held  the right part's count, and the entry where it waits
 --     others_entry, next_fits, next_cast      with no left part: the right part's count, and the root's label
 --     shaped                            these, for `shape`
 -- Assumes nothing.

@@ -81,7 +81,7 @@ fn clear(places: &[u8], from: usize) -> bool
     sum == 0
 }
 
-// Whether the places are the pattern with that number.
+// Whether the places are the pattern with that number. No `==` of two results: each edit of must-fail/ changes one answer of the `match`.
 #[tactic(auto, using(crate::proofs::Tests::number_same))]
 fn numbered(size: usize, number: u64, places: &[u8]) -> bool
     requires { Sized size × (number < C size) }
